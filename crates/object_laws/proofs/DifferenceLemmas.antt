@@ -46,7 +46,7 @@ value_back a b n same place old new =
     (tells_behind (tells_behind (script_told (codes "old") n (value_in a.stores q) refl old.units) (script_told (codes "new") n (value_in b.stores q) refl units)) (shown_told (codes "oldShown") a n refl old))
     (shown_told (codes "newShown") b n refl new)))
 
-verdict_word : (o : Option Denial) → IsWord (verdict_text o)
+pub verdict_word : (o : Option Denial) → IsWord (verdict_text o)
 verdict_word None = refl
 verdict_word (Some denial) = denial_word denial
 

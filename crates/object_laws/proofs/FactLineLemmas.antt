@@ -66,10 +66,10 @@ fact_line word plain safe = line_safe (safe_behind (column_safe word plain) safe
 one_fact : {its : List ℕ} (word : List ℕ) → IsWord word → IsSafe its → AreLines (fact word its)
 one_fact word plain safe = one_line (fact_line word plain safe)
 
-id_safe : (id : ℕ) → IsSafe (id_text id)
+pub id_safe : (id : ℕ) → IsSafe (id_text id)
 id_safe id = word_safe (id_text id) (id_word id)
 
-prompt_safe : (a : Audited) (n : Node) → ShowsTexts a.texts → AreBytes n.op → IsSafe (safe_text (a.texts (statement_prompt n.op)))
+pub prompt_safe : (a : Audited) (n : Node) → ShowsTexts a.texts → AreBytes n.op → IsSafe (safe_text (a.texts (statement_prompt n.op)))
 prompt_safe a n shows are = text_safe (a.texts (statement_prompt n.op)) (shows (statement_prompt n.op) (two_bytes n.op 2 are))
 
 title_safe : (a : Audited) (form : Node) → ShowsTexts a.texts → AreBytes form.op → IsSafe (safe_text (a.texts (form_title form.op)))

@@ -20,3 +20,7 @@ pub mod QuestionLineLemmas
 pub mod FactLineLemmas
 pub mod ObjectLineLemmas
 pub mod WarningLineLemmas
+pub mod StoreLineLemmas
+pub mod SurveyLineLemmas
+pub mod ScriptLineLemmas
+pub mod UnlockLineLemmas

@@ -1,6 +1,5 @@
 -- Lines of `split`, `stores` and `check` stay one line.
 use Rattle.std.proofs.Common.{◌≡◌, ℕ, ◌^◌, ◌<◌, true, false, List, [], ◌∷◌, ◌++◌, length, map, decimal, codes, Option, Some, None, IfSome, refl}
-use Rattle.std.specs.List.{flat_map}
 use Rattle.std.specs.Str.{all_scalars}
 use Rattle.std.proofs.lemmas.Bool.{cond_both}
 use Rattle.browser_rules.specs.Opcodes.{number}
@@ -17,8 +16,9 @@ use Rattle.ifr_opcodes.specs.Fields.{form_set_guid, form_set_title}
 use Rattle.ifr_opcodes.specs.Forest.{Node}
 use Rattle.ifr_opcodes.specs.Opcode.{number as number_of_opcode}
 use Rattle.ifr_scopes.specs.Stores.{store_guid, store_id, store_name, store_size}
+use Rattle.session_steps.specs.Texts.{refused_at_text, refused_text}
 use Rattle.audit_text.specs.Stores.{store_attributes}
-use Rattle.audit_text.specs.Texts.{digits_of, guid_text, hex_text, joined, language_name, left_aligned, safe_text}
+use Rattle.audit_text.specs.Texts.{digits_of, guid_text, hex_text, language_name, left_aligned, safe_text}
 use Rattle.audit_text.specs.Words.{opcode_name}
 use Rattle.dump_audit.specs.Contents.{begins_with_form_set, first_title, form_sets, forms_in, guid_word as guid_behind, opcodes_of}
 use Rattle.dump_audit.specs.Findings.{Contents, Refused}
@@ -37,7 +37,7 @@ use Rattle.object_laws.specs.laws.Lines.{IsLine, IsSafe}
 use Rattle.object_laws.proofs.BehindLemmas.{IsShown, SeenOne, are_shown}
 use Rattle.object_laws.proofs.CheckLemmas.{mostly_word}
 use Rattle.object_laws.proofs.OpcodeLemmas.{name_word}
-use Rattle.object_laws.proofs.SafeLemmas.{each_safe, language_safe, left_safe, line_closed, line_safe, right_safe, safe_behind, safe_nothing, store_name_safe, text_safe, word_safe}
+use Rattle.object_laws.proofs.SafeLemmas.{each_safe, joined_safe, language_safe, left_safe, line_closed, line_safe, right_safe, safe_behind, safe_nothing, store_name_safe, text_safe, word_safe}
 use Rattle.object_laws.proofs.ScriptLemmas.{cause_word, refused_word}
 use Rattle.object_laws.proofs.SplitLemmas.{guid_bytes, packages_have_bytes, title_small}
 use Rattle.object_laws.proofs.StoreLemmas.{attributes_are_word, guid_bytes_of, header_word, name_bytes_of}
@@ -57,24 +57,24 @@ place_safe place = word_safe (place_text place) (place_word place)
 pub guid_safe : (guid : List ℕ) → Bytes guid → IsSafe (guid_text true guid)
 guid_safe guid all = word_safe (guid_text true guid) (guid_word true guid (are_bytes guid all))
 
-fault_safe : (fault : Fault) → IsSafe (fault_text fault)
+pub fault_safe : (fault : Fault) → IsSafe (fault_text fault)
 fault_safe fault = safe_behind (safe_behind (word_safe (cause_text fault.cause) (refused_word fault.cause)) (word_safe (codes " at ") refl)) (place_safe fault.place)
+
+-- ---- refusals
+
+pub refused_is_line : (cause : Cause) → IsLine (refused_text cause)
+refused_is_line cause = line_safe (word_safe (cause_text cause) (refused_word cause))
+
+pub refused_at_is_line : (fault : Fault) → IsLine (refused_at_text fault)
+refused_at_is_line fault = line_safe (fault_safe fault)
 
 -- ---- split
 
-set_guid_safe : (p : Package) → Bytes p.bytes → IsSafe (guid_text true (form_set_guid (opcodes_of p)))
+pub set_guid_safe : (p : Package) → Bytes p.bytes → IsSafe (guid_text true (form_set_guid (opcodes_of p)))
 set_guid_safe p all = guid_safe (form_set_guid (opcodes_of p)) (guid_bytes (opcodes_of p) (bytes_drop 4 p.bytes all))
 
 guid_behind_safe : (p : Package) → Bytes p.bytes → IsSafe (guid_behind p)
 guid_behind_safe p all = safe_behind (word_safe (codes " ") refl) (set_guid_safe p all)
-
-names_safe : (languages : List (List ℕ)) → IsSafe (joined (codes ",") (map language_name languages))
-names_safe [] = word_safe (codes "-") refl
-names_safe (language ∷ languages) = safe_behind (language_safe language) (more_safe languages)
-  where
-    more_safe : (others : List (List ℕ)) → IsSafe (flat_map (λ next. codes "," ++ next) (map language_name others))
-    more_safe [] = safe_nothing
-    more_safe (other ∷ others) = safe_behind (safe_behind (word_safe (codes ",") refl) (language_safe other)) (more_safe others)
 
 title_safe : (list : List ℕ) (ps : List Package) → AreBytes list → HaveBytes ps → IsSafe (title_text (spoken_in list) (first_title ps))
 title_safe list [] are all = safe_nothing
@@ -90,7 +90,7 @@ contents_safe list are =
     (safe_behind
     (safe_behind (safe_behind (safe_behind (word_safe (codes "forms ") refl) (decimal_safe (length (forms_in packages)))) (each_safe (λ (p : Package). Bytes p.bytes) guid_behind (form_sets packages) guid_behind_safe sets))
     (word_safe (codes " strings ") refl))
-    (names_safe (map (λ s. s.language) (spoken_in list))))
+    (joined_safe (codes ",") language_name (map (λ s. s.language) (spoken_in list)) (word_safe (codes ",") refl) language_safe))
     (title_safe list (form_sets packages) are sets)
 
 head_safe : (number : ℕ) (list : Entry) → IsSafe (head_text number list)
@@ -199,7 +199,7 @@ also_is_line fault byte =
     (hex_safe byte))
     (word_safe (codes " of the file") refl)
 
-set_safe : (spoken : List Spoken) (p : Package) → AreBytes p.bytes → ((id : ℕ) → id < 2 ^ 64 → all_scalars (text_of spoken id) ≡ true) → IsSafe (form_set_words spoken p)
+pub set_safe : (spoken : List Spoken) (p : Package) → AreBytes p.bytes → ((id : ℕ) → id < 2 ^ 64 → all_scalars (text_of spoken id) ≡ true) → IsSafe (form_set_words spoken p)
 set_safe spoken p are shows =
     let op = opcodes_of p in
     let all = all_bytes p.bytes are in

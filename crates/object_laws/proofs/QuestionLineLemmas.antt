@@ -91,7 +91,7 @@ value_safe a n can = text_safe (value_told a n) (value_is_text a.texts a.world a
 
 -- ---- columns
 
-verdict_safe : (o : Option Denial) → IsSafe (verdict_columns o)
+pub verdict_safe : (o : Option Denial) → IsSafe (verdict_columns o)
 verdict_safe None = safe_behind (left_safe 10 (word_safe (codes "open") refl)) (spaces_safe 9)
 verdict_safe (Some denial) = safe_behind (safe_behind (left_safe 10 (word_safe (kind_name denial.kind) (kind_word denial.kind))) (word_safe (codes " ") refl)) (place_safe denial.place)
 

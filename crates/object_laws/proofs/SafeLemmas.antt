@@ -7,14 +7,14 @@ use Rattle.std.proofs.lemmas.List.Folds.{list_any-append}
 use Rattle.std.proofs.lemmas.Str.{IsUtf8-append, IsUtf8-from_ascii, chars-IsAscii, chars-append, chars_from_encodes, encodes-chars}
 use lib.Utf8.{encode, encodes, next, scalar}
 use Rattle.hii_bytes.specs.Texts.{right_aligned}
-use Rattle.audit_text.specs.Texts.{ascii_name, hex_text, is_unsafe, language_byte, language_name, left_aligned, name_by, safe_char, safe_text, shown_byte}
+use Rattle.audit_text.specs.Texts.{ascii_name, hex_text, is_unsafe, joined, language_byte, language_name, left_aligned, name_by, safe_char, safe_text, shown_byte}
 use Rattle.json_laws.specs.laws.Written.{IsWord, is_plain}
 use Rattle.json_laws.proofs.WordLemmas.{hexadecimal_word}
 use Rattle.object_laws.specs.laws.Lines.{AreLines, IsLine, IsSafe, is_control}
 
 -- ---- printable characters of ASCII
 
-abbrev is_printable : ℕ → Bool
+abbrev pub is_printable : ℕ → Bool
 is_printable c = nat_le 0x20 c && nat_le c 0x7E
 
 abbrev pub IsPrintable : List ℕ → Type 0
@@ -132,9 +132,12 @@ line_safe {words} safe = record { words = words; whole = refl; safe = safe; no_c
 pub line_closed : {words : List ℕ} (last : List ℕ) → IsSafe words → IsSafe last → IsLine (words ++ (last ++ codes "\n"))
 line_closed {words} last safe too = subst IsLine (append_assoc words last (codes "\n")) (line_safe (safe_behind safe too))
 
+pub line_behind : {words line : List ℕ} → IsSafe words → IsLine line → IsLine (words ++ line)
+line_behind {words} {line} safe is = subst (λ (l : List ℕ). IsLine (words ++ l)) (sym is.whole) (line_closed is.words safe is.safe)
+
 -- ---- names
 
-shown_printable : (byte : ℕ) → is_printable (shown_byte byte) ≡ true
+pub shown_printable : (byte : ℕ) → is_printable (shown_byte byte) ≡ true
 shown_printable byte = cond_both (is_printable byte) byte 63 (λ c. is_printable c ≡ true) (λ is. is) (λ _. refl)
 
 language_printable : (byte : ℕ) → is_printable (language_byte byte) ≡ true
@@ -144,7 +147,7 @@ each_printable : (show : ℕ → ℕ) → ((byte : ℕ) → is_printable (show b
 each_printable show one [] = refl
 each_printable show one (byte ∷ name) = and_from _ _ (one byte) (each_printable show one name)
 
-name_printable : (show : ℕ → ℕ) → ((byte : ℕ) → is_printable (show byte) ≡ true) → (name : List ℕ) → IsPrintable (name_by show name)
+pub name_printable : (show : ℕ → ℕ) → ((byte : ℕ) → is_printable (show byte) ≡ true) → (name : List ℕ) → IsPrintable (name_by show name)
 name_printable show one [] = refl
 name_printable show one (byte ∷ name) = each_printable show one (byte ∷ name)
 
@@ -178,6 +181,16 @@ each_safe P f (x ∷ xs) one all = safe_behind (one x all.0) (each_safe P f xs o
 pub any_safe : {X : Type 0} (f : X → List ℕ) (xs : List X) → ((x : X) → IsSafe (f x)) → IsSafe (flat_map f xs)
 any_safe f [] one = safe_nothing
 any_safe f (x ∷ xs) one = safe_behind (one x) (any_safe f xs one)
+
+-- ---- words with a text between each two
+
+pub joined_safe : {X : Type 0} (between : List ℕ) (f : X → List ℕ) (xs : List X) → IsSafe between → ((x : X) → IsSafe (f x)) → IsSafe (joined between (map f xs))
+joined_safe between f [] safe one = word_safe (codes "-") refl
+joined_safe {X} between f (x ∷ xs) safe one = safe_behind (one x) (more_safe xs)
+  where
+    more_safe : (others : List X) → IsSafe (flat_map (λ next. between ++ next) (map f others))
+    more_safe [] = safe_nothing
+    more_safe (other ∷ others) = safe_behind (safe_behind safe (one other)) (more_safe others)
 
 -- ---- lines one behind the other
 

@@ -1,6 +1,7 @@
 -- Objects of `apply` tell facts.
-use Rattle.std.proofs.Common.{◌≡◌, ◌==◌, ℕ, ◌+◌, ◌-◌, ◌^◌, ◌<◌, min, nat_lt, not, Bool, cond, bytes_eq, List, [], ◌∷◌, ◌++◌, Option, Some, None, IfSome, decimal, codes, refl, subst, append_assoc}
+use Rattle.std.proofs.Common.{◌≡◌, ◌==◌, ℕ, ◌+◌, ◌-◌, ◌^◌, ◌<◌, min, nat_lt, not, Bool, true, cond, bytes_eq, List, [], ◌∷◌, ◌++◌, Option, Some, None, IfSome, decimal, codes, refl, subst, append_assoc}
 use Rattle.std.specs.List.{flat_map, list_any}
+use Rattle.std.specs.Str.{all_scalars}
 use Rattle.std.proofs.lemmas.Bool.{cond_both}
 use Rattle.bstr.specs.Utf8.{lossy_chars}
 use Rattle.browser_rules.specs.Script.{cut_word}
@@ -27,6 +28,7 @@ use Rattle.guard_policy.specs.declared.denial.Denial.{Denial}
 use Rattle.audit_text.specs.Texts.{ascii_name, hex_text}
 use Rattle.audit_text.specs.Words.{opcode_name}
 use Rattle.audit_json.specs.Objects.{member_key, number_member, object_kind}
+use Rattle.audit_json.specs.declared.telling.Telling.{Telling}
 use Rattle.audit_json.specs.declared.telling.Telling.TheVariants.{Objects}
 use Rattle.question_audit.specs.QuestionLines.{is_undefined, name_of as name_of_store, store_with}
 use Rattle.question_audit.specs.ScriptValues.{behind, script_value}
@@ -56,7 +58,18 @@ use Rattle.object_laws.proofs.LossyLemmas.{lossy_are_text, taken_are_text}
 use Rattle.object_laws.proofs.MemberLemmas.{kind_word, outside_word, words_are_word}
 use Rattle.object_laws.proofs.QuestionLemmas.{script_word, value_is_text}
 use Rattle.object_laws.proofs.StoreLemmas.{name_is_text}
-use Rattle.object_laws.proofs.TextPieceLemmas.{denial_word, field_behind, place_word}
+use Rattle.object_laws.proofs.TextPieceLemmas.{denial_word, place_word}
+
+-- ---- ways in which texts are told
+
+-- what holds of words, of texts as they are spelled, and of one behind another
+pub record Way (telling : Telling) (P : List ℕ → Type 0) : Type 0 where
+  pub word : (w : List ℕ) → IsWord w → P w
+  pub text : (characters : List ℕ) → all_scalars characters ≡ true → P (spelled telling characters)
+  pub behind : {one other : List ℕ} → P one → P other → P (one ++ other)
+
+spelling : Way Objects SpellsText
+spelling = record { word = spells_word; text = spells_text; behind = spells_behind }
 
 -- ---- objects with one text
 
@@ -91,34 +104,37 @@ refused_word cause =
     word_behind (codes "REFUSED " ++ decimal (number_of cause) ++ codes " ") (name_of cause)
     (word_behind (codes "REFUSED " ++ decimal (number_of cause)) (codes " ") (word_behind (codes "REFUSED ") (decimal (number_of cause)) refl (decimal_word (number_of cause))) refl) (cause_word cause)
 
-answer_spelled : (a : Seen) (reply : Reply) → ShowsTexts a.texts → HasMessage reply → SpellsText (answer_text Objects a reply)
-answer_spelled a Accepted shows small = spells_word [] refl
-answer_spelled a (Denied denial) shows small =
+pub answer_spelled : {telling : Telling} {P : List ℕ → Type 0} (way : Way telling P) (a : Seen) (reply : Reply) → ShowsTexts a.texts → HasMessage reply → P (answer_text telling a reply)
+answer_spelled {telling} {P} way a Accepted shows small = way.word [] refl
+answer_spelled {telling} {P} way a (Denied denial) shows small =
     let front = codes "DENIED " ++ kind_name denial.kind ++ codes " at " ++ place_text denial.place in
-    let message = codes " " ++ spelled Objects (a.texts denial.message) in
-    spells_behind
-    (spells_word front
+    let message = codes " " ++ spelled telling (a.texts denial.message) in
+    way.behind
+    (way.word front
     (word_behind (codes "DENIED " ++ kind_name denial.kind ++ codes " at ") (place_text denial.place)
     (word_behind (codes "DENIED " ++ kind_name denial.kind) (codes " at ") (word_behind (codes "DENIED ") (kind_name denial.kind) refl (kind_word denial.kind)) refl) (place_word denial.place)))
-    (cond_both (has_text denial.kind) message [] SpellsText (λ _. spells_behind (spells_word (codes " ") refl) (spells_text (a.texts denial.message) (shows denial.message small))) (λ _. spells_word [] refl))
-answer_spelled a (Refused cause) shows small = spells_word (cause_text cause) (refused_word cause)
+    (cond_both (has_text denial.kind) message [] P (λ _. way.behind (way.word (codes " ") refl) (way.text (a.texts denial.message) (shows denial.message small))) (λ _. way.word [] refl))
+answer_spelled {telling} {P} way a (Refused cause) shows small = way.word (cause_text cause) (refused_word cause)
 
 pub answer_back : (a : Seen) (reply : Reply) → ShowsTexts a.texts → HasMessage reply → IsReadBack (codes "answer") (answer_told Objects a reply)
-answer_back a reply shows small = text_back (codes "") (codes "answer") (codes "answer") refl refl (answer_spelled a reply shows small)
+answer_back a reply shows small = text_back (codes "") (codes "answer") (codes "answer") refl refl (answer_spelled spelling a reply shows small)
 
 -- ---- a condition that forbids it
 
-pub forbidden_back : (package_place : ℕ) (state : List ℕ) (c : Node) → IsWord state → IsReadBack (codes "because") (because_told Objects (condition_text package_place state c))
-forbidden_back package_place state c plain =
+pub condition_text_word : (package_place : ℕ) (state : List ℕ) (c : Node) → IsWord state → IsWord (condition_text package_place state c)
+condition_text_word package_place state c plain =
     let name = opcode_name (number c.op) in
     let byte = hex_text (min (package_place + c.place) (2 ^ 64 - 1)) in
     let one = word_behind (name ++ codes " at ") (place_text c.place) (word_behind name (codes " at ") (opcode_word (number c.op)) refl) (place_word c.place) in
     let two = word_behind (name ++ codes " at " ++ place_text c.place ++ codes " (byte ") byte (word_behind (name ++ codes " at " ++ place_text c.place) (codes " (byte ") one refl) (hexadecimal_word (min (package_place + c.place) (2 ^ 64 - 1))) in
     let three = word_behind (name ++ codes " at " ++ place_text c.place ++ codes " (byte " ++ byte ++ codes ") ") state
     (word_behind (name ++ codes " at " ++ place_text c.place ++ codes " (byte " ++ byte) (codes ") ") two refl) plain in
-    let all = word_behind (name ++ codes " at " ++ place_text c.place ++ codes " (byte " ++ byte ++ codes ") " ++ state ++ codes ": ") (condition_words c)
-    (word_behind (name ++ codes " at " ++ place_text c.place ++ codes " (byte " ++ byte ++ codes ") " ++ state) (codes ": ") three refl) (words_are_word c) in
-    text_back (codes "because  ") (codes "because") (codes "text") refl refl (spells_word (condition_text package_place state c) all)
+    word_behind (name ++ codes " at " ++ place_text c.place ++ codes " (byte " ++ byte ++ codes ") " ++ state ++ codes ": ") (condition_words c)
+    (word_behind (name ++ codes " at " ++ place_text c.place ++ codes " (byte " ++ byte ++ codes ") " ++ state) (codes ": ") three refl) (words_are_word c)
+
+pub forbidden_back : (package_place : ℕ) (state : List ℕ) (c : Node) → IsWord state → IsReadBack (codes "because") (because_told Objects (condition_text package_place state c))
+forbidden_back package_place state c plain =
+    text_back (codes "because  ") (codes "because") (codes "text") refl refl (spells_word (condition_text package_place state c) (condition_text_word package_place state c plain))
 
 -- ---- words of a denial
 
@@ -232,122 +248,128 @@ last_bytes last [] here all = here
 last_bytes last (b ∷ said) here all =
     cond_both (is_space b) (behind_spaces said said) (behind_spaces last said) Bytes (λ _. last_bytes said said all.1 all.1) (λ _. last_bytes last said here all.1)
 
-word_spelled : (w : List ℕ) → Bytes w → SpellsText (told_word Objects w)
-word_spelled w all = spells_text (lossy_chars w) (lossy_are_text w (are_bytes w all))
+word_spelled : {telling : Telling} {P : List ℕ → Type 0} (way : Way telling P) (w : List ℕ) → Bytes w → P (told_word telling w)
+word_spelled {telling} {P} way w all = way.text (lossy_chars w) (lossy_are_text w (are_bytes w all))
 
-no_number_spelled : (w : List ℕ) → Bytes w → SpellsText (no_number Objects w)
-no_number_spelled w all = spells_behind (spells_word (codes "no number: ") refl) (word_spelled w all)
+no_number_spelled : {telling : Telling} {P : List ℕ → Type 0} (way : Way telling P) (w : List ℕ) → Bytes w → P (no_number telling w)
+no_number_spelled {telling} {P} way w all = way.behind (way.word (codes "no number: ") refl) (word_spelled way w all)
 
-decimal_spelled : (w last : List ℕ) → Bytes w → Bytes last → SpellsText (decimal_text Objects w last)
-decimal_spelled w last all too =
+decimal_spelled : {telling : Telling} {P : List ℕ → Type 0} (way : Way telling P) (w last : List ℕ) → Bytes w → Bytes last → P (decimal_text telling w last)
+decimal_spelled {telling} {P} way w last all too =
     let great = codes "a number above 65535" in
-    let end = no_number Objects last in
-    cond_both (not (is_decimal w)) (no_number Objects w) (cond (is_too_great w) great end) SpellsText (λ _. no_number_spelled w all)
-    (λ _. cond_both (is_too_great w) great end SpellsText (λ _. spells_word great refl) (λ _. no_number_spelled last too))
+    let end = no_number telling last in
+    cond_both (not (is_decimal w)) (no_number telling w) (cond (is_too_great w) great end) P (λ _. no_number_spelled way w all)
+    (λ _. cond_both (is_too_great w) great end P (λ _. way.word great refl) (λ _. no_number_spelled way last too))
 
-number_spelled : (w last : List ℕ) (o : Option ℕ) → Bytes w → Bytes last → SpellsText (number_text Objects w last o)
-number_spelled w last None all too = decimal_spelled w last all too
-number_spelled w last (Some n) all too =
-    spells_behind (spells_word (codes "a number in hexadecimal, where a decimal one is wanted: ") refl) (spells_word (decimal n) (decimal_word n))
+number_spelled : {telling : Telling} {P : List ℕ → Type 0} (way : Way telling P) (w last : List ℕ) (o : Option ℕ) → Bytes w → Bytes last → P (number_text telling w last o)
+number_spelled {telling} {P} way w last None all too = decimal_spelled way w last all too
+number_spelled {telling} {P} way w last (Some n) all too =
+    way.behind (way.word (codes "a number in hexadecimal, where a decimal one is wanted: ") refl) (way.word (decimal n) (decimal_word n))
 
-arguments_spelled : (said : List ℕ) (takes_number : Bool) → Bytes said → SpellsText (arguments_text Objects said takes_number)
-arguments_spelled said takes_number all =
+arguments_spelled : {telling : Telling} {P : List ℕ → Type 0} (way : Way telling P) (said : List ℕ) (takes_number : Bool) → Bytes said → P (arguments_text telling said takes_number)
+arguments_spelled {telling} {P} way said takes_number all =
     let second = behind_bytes (cut_word said).1 (rest_bytes said all) in
     let last = last_bytes said said all all in
-    let language = codes "no language: " ++ told_word Objects (second_word said) in
-    let end = no_number Objects (last_word said) in
-    cond_both takes_number (number_text Objects (second_word said) (last_word said) (hexadecimal_in (second_word said))) (cond (bytes_eq (first_word said) (codes "lang")) language end) SpellsText
-    (λ _. number_spelled (second_word said) (last_word said) (hexadecimal_in (second_word said)) second last)
-    (λ _. cond_both (bytes_eq (first_word said) (codes "lang")) language end SpellsText
-    (λ _. spells_behind (spells_word (codes "no language: ") refl) (word_spelled (second_word said) second)) (λ _. no_number_spelled (last_word said) last))
+    let language = codes "no language: " ++ told_word telling (second_word said) in
+    let end = no_number telling (last_word said) in
+    cond_both takes_number (number_text telling (second_word said) (last_word said) (hexadecimal_in (second_word said))) (cond (bytes_eq (first_word said) (codes "lang")) language end) P
+    (λ _. number_spelled way (second_word said) (last_word said) (hexadecimal_in (second_word said)) second last)
+    (λ _. cond_both (bytes_eq (first_word said) (codes "lang")) language end P
+    (λ _. way.behind (way.word (codes "no language: ") refl) (word_spelled way (second_word said) second)) (λ _. no_number_spelled way (last_word said) last))
 
-words_spelled : (said : List ℕ) (words : Words) → Bytes said → SpellsText (words_text Objects said words)
-words_spelled said words all =
+words_spelled : {telling : Telling} {P : List ℕ → Type 0} (way : Way telling P) (said : List ℕ) (words : Words) → Bytes said → P (words_text telling said words)
+words_spelled {telling} {P} way said words all =
     let few = codes "too few words" in
     let many = codes "too many words" in
-    let arguments = arguments_text Objects said words.takes_number in
+    let arguments = arguments_text telling said words.takes_number in
     let at_most = cond (nat_lt words.most (word_count said)) many arguments in
-    cond_both (has_two_spaces said) (codes "two spaces, where one is wanted") (cond (nat_lt (word_count said) words.least) few at_most) SpellsText (λ _. spells_word (codes "two spaces, where one is wanted") refl)
-    (λ _. cond_both (nat_lt (word_count said) words.least) few at_most SpellsText (λ _. spells_word few refl)
-    (λ _. cond_both (nat_lt words.most (word_count said)) many arguments SpellsText (λ _. spells_word many refl) (λ _. arguments_spelled said words.takes_number all)))
+    cond_both (has_two_spaces said) (codes "two spaces, where one is wanted") (cond (nat_lt (word_count said) words.least) few at_most) P (λ _. way.word (codes "two spaces, where one is wanted") refl)
+    (λ _. cond_both (nat_lt (word_count said) words.least) few at_most P (λ _. way.word few refl)
+    (λ _. cond_both (nat_lt words.most (word_count said)) many arguments P (λ _. way.word many refl) (λ _. arguments_spelled way said words.takes_number all)))
 
-command_spelled : (said : List ℕ) (o : Option Words) → Bytes said → SpellsText (command_text Objects said o)
-command_spelled said (Some words) all = words_spelled said words all
-command_spelled said None all =
-    cond_both (is_in_capitals (first_word said)) (codes "a command in capitals") (codes "no command") SpellsText (λ _. spells_word (codes "a command in capitals") refl) (λ _. spells_word (codes "no command") refl)
+command_spelled : {telling : Telling} {P : List ℕ → Type 0} (way : Way telling P) (said : List ℕ) (o : Option Words) → Bytes said → P (command_text telling said o)
+command_spelled {telling} {P} way said (Some words) all = words_spelled way said words all
+command_spelled {telling} {P} way said None all =
+    cond_both (is_in_capitals (first_word said)) (codes "a command in capitals") (codes "no command") P (λ _. way.word (codes "a command in capitals") refl) (λ _. way.word (codes "no command") refl)
 
-sentence_spelled : (said : List ℕ) → Bytes said → SpellsText (bad_command_text Objects said)
-sentence_spelled said all =
-    let command = command_text Objects said (wanted_words (first_word said)) in
+sentence_spelled : {telling : Telling} {P : List ℕ → Type 0} (way : Way telling P) (said : List ℕ) → Bytes said → P (bad_command_text telling said)
+sentence_spelled {telling} {P} way said all =
+    let command = command_text telling said (wanted_words (first_word said)) in
     let tab = codes "a tab, where one space is wanted" in
     let begins = codes "a space at the beginning" in
     let ends = codes "a space at the end" in
     let at_end = cond (ends_with_space said) ends command in
     let at_begin = cond (begins_with_space said) begins at_end in
-    cond_both (has_mark said) (codes "a byte order mark") (cond (list_any is_tab said) tab at_begin) SpellsText (λ _. spells_word (codes "a byte order mark") refl)
-    (λ _. cond_both (list_any is_tab said) tab at_begin SpellsText (λ _. spells_word tab refl)
-    (λ _. cond_both (begins_with_space said) begins at_end SpellsText (λ _. spells_word begins refl)
-    (λ _. cond_both (ends_with_space said) ends command SpellsText (λ _. spells_word ends refl) (λ _. command_spelled said (wanted_words (first_word said)) all))))
+    cond_both (has_mark said) (codes "a byte order mark") (cond (list_any is_tab said) tab at_begin) P (λ _. way.word (codes "a byte order mark") refl)
+    (λ _. cond_both (list_any is_tab said) tab at_begin P (λ _. way.word tab refl)
+    (λ _. cond_both (begins_with_space said) begins at_end P (λ _. way.word begins refl)
+    (λ _. cond_both (ends_with_space said) ends command P (λ _. way.word ends refl) (λ _. command_spelled way said (wanted_words (first_word said)) all))))
 
-cause_spelled : (line : List ℕ) (cause : Cause) → Bytes line → SpellsText (cause_words Objects line cause)
-cause_spelled line cause all =
+cause_spelled : {telling : Telling} {P : List ℕ → Type 0} (way : Way telling P) (line : List ℕ) (cause : Cause) → Bytes line → P (cause_words telling line cause)
+cause_spelled {telling} {P} way line cause all =
     let long = codes "a line has at most 4096 bytes" in
     let other = codes "the configuration text has a fault" in
-    cond_both (number_of cause == number_of BadCommand) (bad_command_text Objects line) (cond (number_of cause == number_of LineTooLong) long other) SpellsText (λ _. sentence_spelled line all)
-    (λ _. cond_both (number_of cause == number_of LineTooLong) long other SpellsText (λ _. spells_word long refl) (λ _. spells_word other refl))
+    cond_both (number_of cause == number_of BadCommand) (bad_command_text telling line) (cond (number_of cause == number_of LineTooLong) long other) P (λ _. sentence_spelled way line all)
+    (λ _. cond_both (number_of cause == number_of LineTooLong) long other P (λ _. way.word long refl) (λ _. way.word other refl))
 
-reason_spelled : (ns : List Node) (line : List ℕ) (reply : Reply) → AreBytes line → SpellsText (reason_words Objects ns line reply)
-reason_spelled ns line Accepted are = spells_word [] refl
-reason_spelled ns line (Denied denial) are = spells_word (denial_words ns denial) (denied_word ns denial)
-reason_spelled ns line (Refused cause) are = cause_spelled line cause (all_bytes line are)
+pub reason_spelled : {telling : Telling} {P : List ℕ → Type 0} (way : Way telling P) (ns : List Node) (line : List ℕ) (reply : Reply) → AreBytes line → P (reason_words telling ns line reply)
+reason_spelled {telling} {P} way ns line Accepted are = way.word [] refl
+reason_spelled {telling} {P} way ns line (Denied denial) are = way.word (denial_words ns denial) (denied_word ns denial)
+reason_spelled {telling} {P} way ns line (Refused cause) are = cause_spelled way line cause (all_bytes line are)
 
 pub because_back : (ns : List Node) (line : List ℕ) (reply : Reply) → AreBytes line → IsReadBack (codes "because") (because_told Objects (reason_words Objects ns line reply))
-because_back ns line reply are = text_back (codes "because  ") (codes "because") (codes "text") refl refl (reason_spelled ns line reply are)
+because_back ns line reply are = text_back (codes "because  ") (codes "because") (codes "text") refl refl (reason_spelled spelling ns line reply are)
 
 -- ---- on what it depends
 
-value_spelled : (a : Seen) (n : Node) → CanTellValue a.texts a.world a.stores n → SpellsText (value_told Objects a n)
-value_spelled a n can = spells_text (value_chars a n) (value_is_text a.texts a.world a.stores n can.shows can.bytes can.options can.units)
+pub value_spelled : {telling : Telling} {P : List ℕ → Type 0} (way : Way telling P) (a : Seen) (n : Node) → CanTellValue a.texts a.world a.stores n → P (value_told telling a n)
+value_spelled {telling} {P} way a n can = way.text (value_chars a n) (value_is_text a.texts a.world a.stores n can.shows can.bytes can.options can.units)
 
-text_spelled : (v : Value) → HasUnits v → SpellsText (text_told Objects v)
-text_spelled (text units) are = spells_behind (spells_word (codes " value ") refl) (spells_text (characters units) (units_are_text units are))
-text_spelled _ are = spells_word [] refl
+text_spelled : {telling : Telling} {P : List ℕ → Type 0} (way : Way telling P) (v : Value) → HasUnits v → P (text_told telling v)
+text_spelled {telling} {P} way (text units) are = way.behind (way.word (codes " value ") refl) (way.text (characters units) (units_are_text units are))
+text_spelled {telling} {P} way _ are = way.word [] refl
 
 behind_word : (o : Option (List ℕ)) → IfSome o IsWord → IsWord (behind (codes " value ") o)
 behind_word None plain = refl
 behind_word (Some its) plain = word_behind (codes " value ") its refl plain
 
-script_spelled : (n : Node) (v : Value) → HasUnits v → SpellsText (script_told Objects n v)
-script_spelled n v are =
+script_spelled : {telling : Telling} {P : List ℕ → Type 0} (way : Way telling P) (n : Node) (v : Value) → HasUnits v → P (script_told telling n v)
+script_spelled {telling} {P} way n v are =
     let its = behind (codes " value ") (script_value n v) in
-    cond_both (number n.op == STRING) (text_told Objects v) its SpellsText (λ _. text_spelled v are) (λ other. spells_word its (behind_word (script_value n v) (script_word n v other)))
+    cond_both (number n.op == STRING) (text_told telling v) its P (λ _. text_spelled way v are) (λ other. way.word its (behind_word (script_value n v) (script_word n v other)))
 
-field_spelled : (ns : List Node) (field : Option Field) → SpellsText (field_of_answer Objects ns field)
-field_spelled ns None = spells_word [] refl
-field_spelled ns (Some field) =
+field_spelled : {telling : Telling} {P : List ℕ → Type 0} (way : Way telling P) (ns : List Node) (field : Option Field) → P (field_of_answer telling ns field)
+field_spelled {telling} {P} way ns None = way.word [] refl
+field_spelled {telling} {P} way ns (Some field) =
     let name = name_of_store (store_with ns field.store) in
-    spells_behind (spells_word (codes " ") refl) (field_behind field.offset field.width (spells_text (ascii_name name) (name_is_text name)))
+    way.behind (way.word (codes " ") refl)
+    (way.behind
+    (way.behind
+    (way.behind (way.behind (way.behind (way.text (ascii_name name) (name_is_text name)) (way.word (codes ":0x") refl)) (way.word (hex_text field.offset) (hexadecimal_word field.offset)))
+    (way.word (codes "(") refl))
+    (way.word (decimal field.width) (decimal_word field.width)))
+    (way.word (codes ")") refl))
 
 pub verdict_word : (o : Option Denial) → IsWord (verdict_text o)
 verdict_word None = refl
 verdict_word (Some denial) = denial_word denial
 
-answer_of_spelled : (a : Seen) (n : Node) → CanTellValue a.texts a.world a.stores n → SpellsText (answer_of Objects a (asked a.world.nodes n))
-answer_of_spelled a n can =
+answer_of_spelled : {telling : Telling} {P : List ℕ → Type 0} (way : Way telling P) (a : Seen) (n : Node) → CanTellValue a.texts a.world a.stores n → P (answer_of telling a (asked a.world.nodes n))
+answer_of_spelled {telling} {P} way a n can =
     let q = asked a.world.nodes n in
     let its = value_of_field a.stores n q.field in
-    let told = codes "[" ++ value_told Objects a n ++ codes "]" ++ script_told Objects n its ++ field_of_answer Objects a.world.nodes q.field ++ codes " " ++ verdict_text (fixed a.world n) in
-    cond_both (is_undefined its) (codes "has no answer here") told SpellsText (λ _. spells_word (codes "has no answer here") refl)
-    (λ _. spells_behind
-    (spells_behind
-    (spells_behind (spells_behind (spells_behind (spells_behind (spells_word (codes "[") refl) (value_spelled a n can)) (spells_word (codes "]") refl)) (script_spelled n its can.units)) (field_spelled a.world.nodes q.field))
-    (spells_word (codes " ") refl))
-    (spells_word (verdict_text (fixed a.world n)) (verdict_word (fixed a.world n))))
+    let told = codes "[" ++ value_told telling a n ++ codes "]" ++ script_told telling n its ++ field_of_answer telling a.world.nodes q.field ++ codes " " ++ verdict_text (fixed a.world n) in
+    cond_both (is_undefined its) (codes "has no answer here") told P (λ _. way.word (codes "has no answer here") refl)
+    (λ _. way.behind
+    (way.behind
+    (way.behind (way.behind (way.behind (way.behind (way.word (codes "[") refl) (value_spelled way a n can)) (way.word (codes "]") refl)) (script_spelled way n its can.units)) (field_spelled way a.world.nodes q.field))
+    (way.word (codes " ") refl))
+    (way.word (verdict_text (fixed a.world n)) (verdict_word (fixed a.world n))))
 
-question_spelled : (a : Seen) (o : Option Node) → IfSome o (CanTellValue a.texts a.world a.stores) → SpellsText (question_text Objects a o)
-question_spelled a None can = spells_word (codes "no such question") refl
-question_spelled a (Some n) can =
-    spells_behind (spells_behind (spells_text (a.texts (statement_prompt n.op)) (can.shows (statement_prompt n.op) (two_bytes n.op 2 can.bytes))) (spells_word (codes " ") refl)) (answer_of_spelled a n can)
+pub question_spelled : {telling : Telling} {P : List ℕ → Type 0} (way : Way telling P) (a : Seen) (o : Option Node) → IfSome o (CanTellValue a.texts a.world a.stores) → P (question_text telling a o)
+question_spelled {telling} {P} way a None can = way.word (codes "no such question") refl
+question_spelled {telling} {P} way a (Some n) can =
+    way.behind (way.behind (way.text (a.texts (statement_prompt n.op)) (can.shows (statement_prompt n.op) (two_bytes n.op 2 can.bytes))) (way.word (codes " ") refl)) (answer_of_spelled way a n can)
 
 pub id_word : (id : ℕ) → IsWord (id_text id)
 id_word id =
@@ -361,11 +383,11 @@ depends_back a id can =
     subst (λ (l : List ℕ). IsReadBack (codes "depends") l)
     (asked_text (front Objects (codes "depends  ") (codes "depends") (codes "text")) (id_text id) (codes " ") (question_text Objects a (question_with a.world.nodes id)) (back Objects))
     (text_back (codes "depends  ") (codes "depends") (codes "text") refl refl
-    (spells_behind (spells_behind (spells_word (id_text id) (id_word id)) (spells_word (codes " ") refl)) (question_spelled a (question_with a.world.nodes id) can)))
+    (spells_behind (spells_behind (spells_word (id_text id) (id_word id)) (spells_word (codes " ") refl)) (question_spelled spelling a (question_with a.world.nodes id) can)))
 
 -- ---- what is left
 
-ids_word : (qs : List Asked) → IsWord (ids_told qs)
+pub ids_word : (qs : List Asked) → IsWord (ids_told qs)
 ids_word [] = refl
 ids_word (q ∷ qs) = word_behind (id_told q) (ids_told qs) (word_behind (codes " ") (decimal (question_id q.node.op)) refl (decimal_word (question_id q.node.op))) (ids_word qs)
 
@@ -395,8 +417,8 @@ change_back a one other n old new =
     (tells_behind
     (tells_behind (number_member_told (codes "id") (question_id n.op) refl (two_bytes n.op 6 old.bytes))
     (tells_member (codes "prompt") refl (tells_spelled (spells_text (a.texts (statement_prompt n.op)) (old.shows (statement_prompt n.op) (two_bytes n.op 2 old.bytes))))))
-    (tells_member (codes "old") refl (tells_spelled (value_spelled (over_stores a one) n old))))
-    (tells_member (codes "new") refl (tells_spelled (value_spelled (over_stores a other) n new)))))
+    (tells_member (codes "old") refl (tells_spelled (value_spelled spelling (over_stores a one) n old))))
+    (tells_member (codes "new") refl (tells_spelled (value_spelled spelling (over_stores a other) n new)))))
 
 pub error_back : (said : List ℕ) → IsWord said → IsReadBack (codes "error") (error_told Objects said)
 error_back said plain = text_back (codes "") (codes "error") (codes "text") refl refl (spells_word said plain)

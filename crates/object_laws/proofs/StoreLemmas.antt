@@ -148,7 +148,7 @@ counts_word one other =
     (word_behind (codes ": " ++ decimal one ++ codes " bytes given, ") (decimal other)
     (word_behind (codes ": " ++ decimal one) (codes " bytes given, ") (word_behind (codes ": ") (decimal one) refl (decimal_word one)) refl) (decimal_word other)) refl
 
-reason_word : (n : Node) (source : Source) → IsWord (reason n source)
+pub reason_word : (n : Node) (source : Source) → IsWord (reason n source)
 reason_word n Missing = refl
 reason_word n source = counts_word (count_from (wanted_of n) source) (wanted_of n)
 

@@ -39,7 +39,7 @@ use Rattle.object_laws.proofs.TextPieceLemmas.{denial_word, field_behind}
 
 -- ---- commands and reasons
 
-set_word : (m : Move) → IsWord (set_text m)
+pub set_word : (m : Move) → IsWord (set_text m)
 set_word m =
     word_behind (codes "set " ++ decimal m.id ++ codes " ") (signed_decimal m.value)
     (word_behind (codes "set " ++ decimal m.id) (codes " ") (word_behind (codes "set ") (decimal m.id) refl (decimal_word m.id)) refl) (signed_word m.value)
@@ -54,7 +54,7 @@ condition_word None = refl
 condition_word (Some g) =
     cond_both (nat_le (length (condition_words g)) 80) (codes ": " ++ condition_words g) [] IsWord (λ _. word_behind (codes ": ") (condition_words g) refl (words_are_word g)) (λ _. refl)
 
-reason_word : (n : Node) (reason : Denial) → IsWord (reason_text n reason)
+pub reason_word : (n : Node) (reason : Denial) → IsWord (reason_text n reason)
 reason_word n reason =
     word_behind (denial_text reason) (short_condition (find (λ g. g.place == reason.place) (guards n))) (denial_word reason) (condition_word (find (λ g. g.place == reason.place) (guards n)))
 
@@ -76,7 +76,7 @@ reversed : (bytes behind : List ℕ) → Bytes bytes → Bytes behind → Bytes 
 reversed [] behind all too = too
 reversed (b ∷ bytes) behind all too = reversed bytes (b ∷ behind) all.1 (all.0, too)
 
-number_word : (bytes : List ℕ) → AreBytes bytes → IsWord (number_text bytes)
+pub number_word : (bytes : List ℕ) → AreBytes bytes → IsWord (number_text bytes)
 number_word bytes are = word_behind (codes "0x") (number_digits bytes) refl (bytes_word false (reverse bytes) (are_bytes (reverse bytes) (reversed bytes [] (all_bytes bytes are) tt)))
 
 taken_spelled : (ns : List Node) (field : Option Field) (r : Result (List ℕ) DenialKind) → IfOk r AreBytes → SpellsText (taken_text Objects ns field r)

@@ -11,20 +11,33 @@ ghost use Rattle.hii_bytes.specs.declared.cause.Fault.{Fault};
 ghost use Rattle.hii_dumps.specs.Dumps.{Entry};
 ghost use Rattle.hii_packages.specs.Packages.{packages_of};
 ghost use Rattle.ifr_opcodes.specs.Forest.{Node};
+ghost use Rattle.ifr_nodes.specs.Nodes.{nodes_of};
+ghost use Rattle.hii_varstore.specs.Stores.{StoreMap};
 ghost use Rattle.hii_values.specs.declared.denial.DenialKind.{DenialKind};
 ghost use Rattle.hii_questions.specs.Fields.{Asked, Field, asked, question_with};
-ghost use Rattle.audit_json.specs.declared.telling.Telling.{Telling};
+ghost use Rattle.session_steps.specs.State.{State, texts};
+ghost use Rattle.session_steps.specs.Texts.{refused_at_text, refused_text};
+ghost use Rattle.session_steps.specs.declared.reply.Reply.{Reply};
+ghost use Rattle.laid_defaults.specs.Laying.{Laid};
 ghost use Rattle.audit_text.specs.Texts.{ascii_name, language_name, safe_text};
+ghost use Rattle.audit_json.specs.declared.telling.Telling.{Telling};
+ghost use Rattle.audit_json.specs.declared.telling.Telling.TheVariants.{Lines};
 ghost use Rattle.dump_audit.specs.Findings.{Contents, Refused};
 ghost use Rattle.dump_audit.specs.Lines.{line as split_line, no_list_text, rest_line};
+ghost use Rattle.store_audit.specs.Defaulted.{count_line};
+ghost use Rattle.store_audit.specs.Fillings.{filled_line, refused_line};
 ghost use Rattle.store_audit.specs.HeaderLines.{header_line};
 ghost use Rattle.store_audit.specs.StoreLines.{store_line};
+ghost use Rattle.store_audit.specs.declared.fillings.Source.{Source};
 ghost use Rattle.question_audit.specs.Audited.{Audited};
 ghost use Rattle.question_audit.specs.FormLines.{form_text};
 ghost use Rattle.question_audit.specs.QuestionFacts.{no_question, question_facts};
 ghost use Rattle.question_audit.specs.QuestionLines.{question_line};
 ghost use Rattle.question_audit.specs.ScriptValues.{default_taken};
 ghost use Rattle.question_audit.specs.declared.origin.Origin.{Origin};
+ghost use Rattle.image_audit.specs.Difference.{run_line, value_line, verdict_line};
+ghost use Rattle.image_audit.specs.Export.{store_line as held_line};
+ghost use Rattle.image_audit.specs.Lines.{piece_line};
 ghost use Rattle.opcode_audit.specs.Lines.{line as opcodes_line, said_first};
 ghost use Rattle.check_audit.specs.Behind.{seen_before};
 ghost use Rattle.check_audit.specs.Constants.{numbered_constants};
@@ -36,12 +49,25 @@ ghost use Rattle.check_audit.specs.Overlaps.{laid_at, overlap_of};
 ghost use Rattle.check_audit.specs.Verdicts.{counts_of};
 ghost use Rattle.check_audit.specs.WarningLines.{Details, warning_line};
 ghost use Rattle.check_audit.specs.Warnings.{asking, numbered_bounds, textless_at, unreached_at};
+ghost use Rattle.survey_audit.specs.Lines.{Heading, counts_line, fault_line, list_fault_line, unfit_line};
+ghost use Rattle.survey_audit.specs.Opened.{found_line};
+ghost use Rattle.survey_audit.specs.declared.counts.Counts.{Counts};
+ghost use Rattle.script_audit.specs.Apply.{change_told, unsubmitted_told};
+ghost use Rattle.script_audit.specs.Because.{answer_told, because_told, condition_text, line_told, reason_words};
+ghost use Rattle.script_audit.specs.Depends.{depends_told};
+ghost use Rattle.script_audit.specs.Script.{Line};
+ghost use Rattle.script_audit.specs.Told.{error_told};
+ghost use Rattle.script_audit.specs.Values.{Seen};
+ghost use Rattle.unlock_audit.specs.Told.{unlock_line};
+ghost use Rattle.unlock_audit.specs.Unlock.{Unlock};
 ghost use Rattle.json_laws.specs.laws.Telling.{IsReadBack};
 ghost use Rattle.json_laws.specs.laws.Written.{IsWord};
 ghost use Rattle.object_laws.specs.laws.Checks.{IsWorded};
 ghost use Rattle.object_laws.specs.laws.Differences.{CanTellValue};
 ghost use Rattle.object_laws.specs.laws.Lines.{AreLines, IsLine, IsSafe, is_control};
 ghost use Rattle.object_laws.specs.laws.Questions.{HasUnits, ShowsTexts};
+ghost use Rattle.object_laws.specs.laws.Scripts.{HasMessage};
+ghost use Rattle.object_laws.specs.laws.Unlocks.{CanWrite};
 
 /// A text of any characters, as it stands in a line, is read back as UTF-8 that has none of the unsafe characters, and so are the names
 /// of stores and languages, of any bytes. No byte of such a text is a control.
@@ -123,4 +149,62 @@ pub fn warnings_of_check_are_lines()
     ensures overlap { (d : Details) (n m : Node) (before next : Field) → IfSome (overlap_of (laid_at n before) (laid_at m next)) (λ w. IsLine (warning_line d w)) }
     ensures text { (d : Details) (spoken : List Spoken) (place id : ℕ) → IfSome (textless_at spoken place id) (λ w. IsLine (warning_line d w)) }
     ensures unreached { (d : Details) (named : ℕ → Bool) (form : Node) → IfSome (unreached_at named form) (λ w. IsLine (warning_line d w)) }
+{}
+
+/// A refusal is one line, by its cause alone and with the place of its fault.
+pub fn lines_of_refusals_are_lines()
+    ensures cause { (cause : Cause) → IsLine (refused_text cause) }
+    ensures fault { (fault : Fault) → IsLine (refused_at_text fault) }
+{}
+
+/// Each line of `image` is one line: of a store that it fills, of one that it does not, and of defaults, whatever the names of the store
+/// and the path of its bytes are.
+pub fn lines_of_image_are_lines()
+    ensures filled { (n : Node) (source : Source) → IsLine (filled_line n source) }
+    ensures refused { (n : Node) (source : Source) → IsLine (refused_line n source) }
+    ensures defaults { (laid : Laid) (class : ℕ) → IsLine (count_line laid class) }
+{}
+
+/// Each line of `export` is one line, and so is that of bytes that are others in another image.
+pub fn lines_of_bytes_are_lines()
+    ensures store { (ns : List Node) (id : ℕ) (bytes : List ℕ) → IsLine (held_line ns id bytes) }
+    ensures piece { (ns : List Node) (store at : ℕ) (bytes : List ℕ) → AreBytes bytes → IsLine (piece_line ns store at bytes) }
+    ensures run { (ns : List Node) (store at : ℕ) (xs ys : List ℕ) → AreBytes xs → AreBytes ys → IsLine (run_line ns store at xs ys) }
+{}
+
+/// Each line of `diff` that tells of a question is one line: of a value, and of a verdict, that is another one over another image.
+pub fn lines_of_differences_are_lines()
+    ensures value { (a b : Audited) (n : Node) → CanTellValue a.texts a.world a.stores n → CanTellValue b.texts b.world b.stores n → IsLine (value_line a b n) }
+    ensures verdict { (a b : Audited) (n : Node) → ShowsTexts a.texts → AreBytes n.op → IsLine (verdict_line a b n) }
+{}
+
+/// Each line of `survey` is one line: of a forms package, of a store that is not given what it holds, of a fault, and of a question that
+/// is found.
+pub fn lines_of_survey_are_lines()
+    ensures counts { (h : Heading) (c : Counts) → AreBytes h.source.bytes → ((id : ℕ) → id < 2 ^ 64 → all_scalars (text_of h.spoken id) ≡ true) → IsLine (counts_line h c) }
+    ensures unfit { (h : Heading) (n : Node) (source : Source) → AreBytes h.source.bytes → ((id : ℕ) → id < 2 ^ 64 → all_scalars (text_of h.spoken id) ≡ true)
+        → IsLine (unfit_line h n source) }
+    ensures fault { (h : Heading) (fault : Fault) → AreBytes h.source.bytes → IsLine (fault_line h fault) }
+    ensures list { (list : ℕ) (fault : Fault) → IsLine (list_fault_line list fault) }
+    ensures found { (h : Heading) (a : Audited) (n : Node) → CanTellValue a.texts a.world a.stores n → IfSome (default_taken a (asked a.world.nodes n) 0) HasUnits
+        → IsLine (found_line h a n) }
+{}
+
+/// Each line of `apply` is one line: the line at which a script ends, whatever its bytes are, its answer, why, and on what this depends,
+/// and what was changed or not submitted.
+pub fn lines_of_scripts_are_lines()
+    ensures line { (line : Line) → AreBytes line.bytes → IsLine (line_told Lines line) }
+    ensures answer { (a : Seen) (reply : Reply) → ShowsTexts a.texts → HasMessage reply → IsLine (answer_told Lines a reply) }
+    ensures condition { (package_place : ℕ) (state : List ℕ) (c : Node) → IsWord state → IsLine (because_told Lines (condition_text package_place state c)) }
+    ensures reason { (ns : List Node) (line : List ℕ) (reply : Reply) → AreBytes line → IsLine (because_told Lines (reason_words Lines ns line reply)) }
+    ensures depends { (a : Seen) (id : ℕ) → IfSome (question_with a.world.nodes id) (CanTellValue a.texts a.world a.stores) → IsLine (depends_told Lines a id) }
+    ensures unsubmitted { (qs : List Asked) → IsLine (unsubmitted_told Lines qs) }
+    ensures changed { (a : Seen) (one other : StoreMap) (n : Node) → CanTellValue a.texts a.world one n → CanTellValue a.texts a.world other n
+        → IsLine (change_told Lines a one other n) }
+    ensures error { (said : List ℕ) → IsWord said → IsLine (error_told Lines said) }
+{}
+
+/// What opens a question is one line, whatever is written and whatever the name of its store is.
+pub fn lines_of_unlock_are_lines()
+    ensures { (s : State) (q : Asked) (u : Unlock) → AreBytes q.node.op → ShowsTexts (texts s) → CanWrite (nodes_of s.ifr) u.answer → IsLine (unlock_line s q u) }
 {}
