@@ -24,3 +24,4 @@ pub mod StoreLineLemmas
 pub mod SurveyLineLemmas
 pub mod ScriptLineLemmas
 pub mod UnlockLineLemmas
+pub mod WarningListLemmas

@@ -59,6 +59,13 @@ lacking_safe (Some lack) =
 
 -- ---- warnings of each word
 
+-- a question and its field, of which the type has no name here
+abbrev DomainOf : {X Y : Type 0} → (X → Y) → Type 0
+DomainOf {X} f = X
+
+abbrev pub Laid : Type 0
+Laid = DomainOf field_of_laid
+
 pub asks_line : (d : Details) (place id : ℕ) (is_there : Bool) → IsLine (warning_line d (asking place id is_there))
 asks_line d place id is_there = warned_line place (codes "asks") refl (safe_behind (decimal_safe id) (lack_safe is_there))
 
@@ -80,13 +87,14 @@ default_line d q n denial =
     warned_line n.place (codes "default") refl
     (safe_behind (safe_behind (safe_behind (safe_behind (decimal_safe _) (word_safe (codes " of question ") refl)) (decimal_safe _)) (word_safe (codes ": ") refl)) (word_safe (denial_word denial) (denial_is_word denial)))
 
-pub overlap_line : (d : Details) (n m : Node) (before next : Field) → IfSome (overlap_of (laid_at n before) (laid_at m next)) (λ w. IsLine (warning_line d w))
-overlap_line d n m before next =
-    let one = field_of_laid (laid_at n before) in
-    let other = field_of_laid (laid_at m next) in
-    cond_both (is_same_field one other || not (meets other one)) None _ (λ o. IfSome o (λ w. IsLine (warning_line d w))) (λ _. tt)
-    (λ _. warned_line m.place (codes "overlap") refl
+pub shared_line : (d : Details) (before next : Laid) → IfSome (overlap_of before next) (λ w. IsLine (warning_line d w))
+shared_line d before next =
+    cond_both (is_same_field (field_of_laid before) (field_of_laid next) || not (meets (field_of_laid next) (field_of_laid before))) None _ (λ o. IfSome o (λ w. IsLine (warning_line d w))) (λ _. tt)
+    (λ _. warned_line next.place (codes "overlap") refl
     (safe_behind (safe_behind (safe_behind (word_safe (codes "question ") refl) (decimal_safe _)) (word_safe (codes " shares bytes with question ") refl)) (decimal_safe _)))
+
+pub overlap_line : (d : Details) (n m : Node) (before next : Field) → IfSome (overlap_of (laid_at n before) (laid_at m next)) (λ w. IsLine (warning_line d w))
+overlap_line d n m before next = shared_line d (laid_at n before) (laid_at m next)
 
 pub text_line : (d : Details) (spoken : List Spoken) (place id : ℕ) → IfSome (textless_at spoken place id) (λ w. IsLine (warning_line d w))
 text_line d spoken place id =

@@ -40,15 +40,15 @@ ghost use Rattle.image_audit.specs.Export.{store_line as held_line};
 ghost use Rattle.image_audit.specs.Lines.{piece_line};
 ghost use Rattle.opcode_audit.specs.Lines.{line as opcodes_line, said_first};
 ghost use Rattle.check_audit.specs.Behind.{seen_before};
-ghost use Rattle.check_audit.specs.Constants.{numbered_constants};
+ghost use Rattle.check_audit.specs.Constants.{constants, numbered_constants};
 ghost use Rattle.check_audit.specs.GivenDefaults.{refused};
 ghost use Rattle.check_audit.specs.Lacks.{Lack, numbered_lacks};
 ghost use Rattle.check_audit.specs.Lines.{Setting, also_line, byte_line, good_line, head_line, mostly_line, named_line, opcode_line, text_of};
 ghost use Rattle.check_audit.specs.Mostly.{mostly_at};
 ghost use Rattle.check_audit.specs.Overlaps.{laid_at, overlap_of};
 ghost use Rattle.check_audit.specs.Verdicts.{counts_of};
-ghost use Rattle.check_audit.specs.WarningLines.{Details, warning_line};
-ghost use Rattle.check_audit.specs.Warnings.{asking, numbered_bounds, textless_at, unreached_at};
+ghost use Rattle.check_audit.specs.WarningLines.{Details, warning_line, warnings_told};
+ghost use Rattle.check_audit.specs.Warnings.{AreWarnings, asking, numbered_bounds, textless_at, unreached_at};
 ghost use Rattle.survey_audit.specs.Lines.{Heading, counts_line, fault_line, list_fault_line, unfit_line};
 ghost use Rattle.survey_audit.specs.Opened.{found_line};
 ghost use Rattle.survey_audit.specs.declared.counts.Counts.{Counts};
@@ -64,7 +64,7 @@ ghost use Rattle.json_laws.specs.laws.Telling.{IsReadBack};
 ghost use Rattle.json_laws.specs.laws.Written.{IsWord};
 ghost use Rattle.object_laws.specs.laws.Checks.{IsWorded};
 ghost use Rattle.object_laws.specs.laws.Differences.{CanTellValue};
-ghost use Rattle.object_laws.specs.laws.Lines.{AreLines, IsLine, IsSafe, is_control};
+ghost use Rattle.object_laws.specs.laws.Lines.{AreLines, IsLine, IsSafe, TellsLines, is_control};
 ghost use Rattle.object_laws.specs.laws.Questions.{HasUnits, ShowsTexts};
 ghost use Rattle.object_laws.specs.laws.Scripts.{HasMessage};
 ghost use Rattle.object_laws.specs.laws.Unlocks.{CanWrite};
@@ -139,7 +139,8 @@ pub fn lines_of_opcodes_are_lines()
         → IsLine (opcodes_line record { telling = telling; spoken = said_first list; base = base } place depth op) }
 {}
 
-/// Each line in which `check` warns is one line, whatever the languages are.
+/// Each line in which `check` warns is one line, whatever the languages are; and all warnings of a package are told in such lines, one
+/// behind the other.
 pub fn warnings_of_check_are_lines()
     ensures asks { (d : Details) (place id : ℕ) (is_there : Bool) → IsLine (warning_line d (asking place id is_there)) }
     ensures bounds { (d : Details) (k : ℕ) (ns : List Node) → AllByRecursion (λ w. IsLine (warning_line d w)) (numbered_bounds k ns) }
@@ -149,6 +150,8 @@ pub fn warnings_of_check_are_lines()
     ensures overlap { (d : Details) (n m : Node) (before next : Field) → IfSome (overlap_of (laid_at n before) (laid_at m next)) (λ w. IsLine (warning_line d w)) }
     ensures text { (d : Details) (spoken : List Spoken) (place id : ℕ) → IfSome (textless_at spoken place id) (λ w. IsLine (warning_line d w)) }
     ensures unreached { (d : Details) (named : ℕ → Bool) (form : Node) → IfSome (unreached_at named form) (λ w. IsLine (warning_line d w)) }
+    ensures all { (d : Details) (spoken : List Spoken) (lacks : List Lack) (ifr : List ℕ) → d.settled ≡ constants (nodes_of ifr)
+        → TellsLines (AreWarnings spoken lacks ifr) (warnings_told Lines d) }
 {}
 
 /// A refusal is one line, by its cause alone and with the place of its fault.

@@ -25,3 +25,7 @@ pub record AreLines (text : List ℕ) : Type 0 where
   pub lines : List (List ℕ)
   pub each : AllByRecursion IsLine lines
   pub whole : text ≡ concat lines
+
+-- Those of which this holds are told in lines.
+abbrev pub TellsLines : {X : Type 0} → (X → Type 0) → (X → List ℕ) → Type 0
+TellsLines {X} Are told = (x : X) → Are x → AreLines (told x)

@@ -1,4 +1,5 @@
 use Rattle.object_laws.proofs.WarningLineLemmas.{asks_line, bounds_line, constant_line, default_line, language_line, overlap_line, text_line, unreached_line}
+use Rattle.object_laws.proofs.WarningListLemmas.{warnings_are_lines}
 use Rattle.object_laws.proofs.lines.warnings_of_check_are_lines.Goals as goal
 
 pub returns-clause-asks : goal.returns-clause-asks
@@ -24,3 +25,6 @@ returns-clause-text c = text_line
 
 pub returns-clause-unreached : goal.returns-clause-unreached
 returns-clause-unreached c = unreached_line
+
+pub returns-clause-all : goal.returns-clause-all
+returns-clause-all c = λ d spoken lacks ifr same ws are. warnings_are_lines d spoken lacks ifr ws same are
