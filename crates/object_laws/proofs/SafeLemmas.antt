@@ -174,6 +174,10 @@ right_safe width {text} safe = safe_behind (spaces_safe (width - length text)) s
 
 -- ---- texts of lists
 
+pub each_behind : {X : Type 0} (P : X → Type 0) (xs ys : List X) → AllByRecursion P xs → AllByRecursion P ys → AllByRecursion P (xs ++ ys)
+each_behind P [] ys all too = too
+each_behind P (x ∷ xs) ys all too = (all.0, each_behind P xs ys all.1 too)
+
 pub each_safe : {X : Type 0} (P : X → Type 0) (f : X → List ℕ) (xs : List X) → ((x : X) → P x → IsSafe (f x)) → AllByRecursion P xs → IsSafe (flat_map f xs)
 each_safe P f [] one all = safe_nothing
 each_safe P f (x ∷ xs) one all = safe_behind (one x all.0) (each_safe P f xs one all.1)
@@ -200,10 +204,6 @@ no_lines = record { lines = []; each = tt; whole = refl }
 pub one_line : {line : List ℕ} → IsLine line → AreLines line
 one_line {line} is = record { lines = line ∷ []; each = (is, tt); whole = sym (append-nil line) }
 
-all_behind : (lines others : List (List ℕ)) → AllByRecursion IsLine lines → AllByRecursion IsLine others → AllByRecursion IsLine (lines ++ others)
-all_behind [] others all too = too
-all_behind (line ∷ lines) others all too = (all.0, all_behind lines others all.1 too)
-
 concat_behind : (lines others : List (List ℕ)) → concat lines ++ concat others ≡ concat (lines ++ others)
 concat_behind [] others = refl
 concat_behind (line ∷ lines) others = append_assoc line (concat lines) (concat others) ∙ ap (λ (l : List ℕ). line ++ l) (concat_behind lines others)
@@ -211,7 +211,7 @@ concat_behind (line ∷ lines) others = append_assoc line (concat lines) (concat
 pub lines_behind : {one other : List ℕ} → AreLines one → AreLines other → AreLines (one ++ other)
 lines_behind {one} {other} a b = record {
   lines = a.lines ++ b.lines;
-  each = all_behind a.lines b.lines a.each b.each;
+  each = each_behind IsLine a.lines b.lines a.each b.each;
   whole = ap₂ (λ (l m : List ℕ). l ++ m) a.whole b.whole ∙ concat_behind a.lines b.lines;
 }
 

@@ -31,7 +31,7 @@ use Rattle.json_laws.proofs.ListLemmas.{some_of}
 use Rattle.object_laws.specs.laws.Checks.{IsWorded}
 use Rattle.object_laws.specs.laws.Lines.{AreLines, IsLine}
 use Rattle.object_laws.proofs.BehindLemmas.{TypeOf}
-use Rattle.object_laws.proofs.SafeLemmas.{lines_behind, no_lines, one_line}
+use Rattle.object_laws.proofs.SafeLemmas.{each_behind, lines_behind, no_lines, one_line}
 use Rattle.object_laws.proofs.WarningLemmas.{constants_worded}
 use Rattle.object_laws.proofs.WarningLineLemmas.{Laid, asks_line, bounds_line, constant_line, default_line, language_line, shared_line, text_line, unreached_line}
 
@@ -43,10 +43,6 @@ abbrev IsTold : Details → Warned → Type 0
 IsTold d w = IsLine (warning_line d w)
 
 -- ---- what holds of each of some lists
-
-each_behind : {X : Type 0} (P : X → Type 0) (xs ys : List X) → AllByRecursion P xs → AllByRecursion P ys → AllByRecursion P (xs ++ ys)
-each_behind P [] ys all too = too
-each_behind P (x ∷ xs) ys all too = (all.0, each_behind P xs ys all.1 too)
 
 each_among : {X Y : Type 0} (P : Y → Type 0) (f : X → List Y) (xs : List X) → ((x : X) → AllByRecursion P (f x)) → AllByRecursion P (flat_map f xs)
 each_among P f [] one = tt
