@@ -187,13 +187,13 @@ def _(part):
     return of_lines(opcodes, bytes(ELEMENTS), b"defaults 0\n", b"OK 1\n")
 
 
-# A line goes over the options of its question up to that of the value.
-@product("set: lines x options of a ONE_OF", 140)
+# The option of a value is looked up.
+@product("set: lines x options of a ONE_OF")
 def _(part):
     count = part(4000)
     options = [option(0, number, NUMBER_4) for number in range(count)]
     lines = b"set 1 %d\n" % (count - 1) * count
-    return of_lines(over(4, scoped(one_of(1, 0, 4), *options)), bytes(4), lines, steps=count * count)
+    return of_lines(over(4, scoped(one_of(1, 0, 4), *options)), bytes(4), lines)
 
 
 def options_in_guards(part):

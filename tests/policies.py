@@ -88,6 +88,12 @@ def guarded_options():
     talk("first_of_the_closed_options_is_named", of_form(scoped(
         one_of(1, 0), grayed_out(TRUE, option(5, 1)), suppressed(TRUE, option(6, 1)))), b"\0\0", [
             ("set 1 1", denied("grayoutif", 74))])
+    # So many options that they are kept by value: the values do not rise, and two come several times.
+    many = [option(5, 9), grayed_out(TRUE, option(6, 3)), option(7, 7), suppressed(TRUE, option(8, 5)), option(9, 1),
+            suppressed(TRUE, option(10, 3)), option(11, 5), option(12, 8), option(13, 2), option(14, 0)]
+    talk("one_of_many_options_is_chosen", of_form(scoped(one_of(1, 0), *many)), b"\2\0", [
+        ("set 1 9", OK), ("set 1 0", OK), ("set 1 8", OK), ("set 1 5", OK), ("set 1 4", denied("nooption")),
+        ("set 1 10", denied("nooption")), ("set 1 3", denied("grayoutif", 81)), ("page", TITLE + row(1, 1, "*", "<#11>"))])
     talk("a_locked_option_is_not_chosen", of_form(scoped(
         one_of(1, 0), grayed_out(FALSE, option(5, 1), LOCKED), option(6, 2))), b"\2\0", [
             ("set 1 1", denied("locked", 85)), ("set 1 2", OK)])

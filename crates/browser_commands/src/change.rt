@@ -16,7 +16,7 @@ ghost use Rattle.browser_commands.specs.code.Changing.{GivesValue, GoesBack, IsB
 ghost use Rattle.browser_commands.specs.code.Standing.{IsOffered, IsQuestionIn};
 
 use guard_policy::{Denial, Policy};
-use hii_questions::{Field, Input, Items, Question, check_value};
+use hii_questions::{Field, Input, Items, Question, check_value_in};
 use hii_varstore::Stores;
 use ifr_scopes::Around;
 use kept_conditions::KeptStores;
@@ -86,7 +86,7 @@ fn new_field<'a, 's, 'i>(
     ensures { TakesField policy.entry working.now.stores (question_view question.entry)
         (offer_of input.entry) result }
 {
-    let field = check_value(question, input)?;
+    let field = check_value_in(policy.questions(), question, input)?;
     if !field.names_options() {
         return Ok(field);
     }
@@ -153,9 +153,6 @@ fn options_open<'a, 's>(
         ≡ unless (first_closed (world policy.entry working.now.stores) (question_node question.entry)
         (new_items field.entry)) }
 {
-    if !field.names_options() {
-        return Ok(());
-    }
     let values = field.items();
     match values {
         Items::List(_) | Items::Stored(_) if field.width > NARROW => {

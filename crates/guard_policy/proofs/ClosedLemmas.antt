@@ -12,6 +12,7 @@ use Rattle.ifr_opcodes.specs.Rows.{row_of, is_question_number}
 use Rattle.ifr_nodes.specs.Nodes.{is_option, is_question}
 use Rattle.hii_values.specs.code.MetValues.{is_met, is_sought}
 use Rattle.hii_values.specs.declared.met_values.MetValues.{MetValues}
+use Rattle.hii_values.proofs.OptionTableLemmas.{has_one, one_filtered}
 use Rattle.guard_policy.specs.Policy.{covered, fixed, all_fixed}
 use Rattle.guard_policy.specs.World.{World}
 use Rattle.guard_policy.specs.code.OpenValues.{opens}
@@ -74,17 +75,6 @@ opens_filtered w value [] = refl
 opens_filtered w value (o ∷ os) = elim (cases_Bool (option_value o.op == value)) [
   | inl same ↦ rw same (ap (λ b. is_none (fixed w o) || b) (opens_filtered w value os))
   | inr other ↦ rw other (opens_filtered w value os)
-]
-
-abbrev has_one : List Node → Bool
-has_one [] = false
-has_one (o ∷ os) = true
-
-one_filtered : (value : ℕ) (os : List Node) → list_any (λ o. option_value o.op == value) os ≡ has_one (filter (λ o. option_value o.op == value) os)
-one_filtered value [] = refl
-one_filtered value (o ∷ os) = elim (cases_Bool (option_value o.op == value)) [
-  | inl same ↦ rw same refl
-  | inr other ↦ rw other (one_filtered value os)
 ]
 
 one_open : (w : World) (os : List Node) → list_any (λ o. is_none (fixed w o)) os ≡ (has_one os && is_none (all_fixed w os))

@@ -28,7 +28,7 @@ use Rattle.guard_policy.specs.World.{World, is_met, world_over}
 use Rattle.guard_policy.specs.code.Worlds.{is_met_at, is_met_if}
 use Rattle.guard_policy.specs.declared.support.Decision.{Decision}
 use Rattle.guard_policy.specs.declared.support.Decision.TheVariants.{Listed, Changeable, OptionOpen, Opens, Consistent, MaySubmit, Warnings}
-use Rattle.guard_policy.proofs.OptionLemmas.{options_are_nodes}
+use Rattle.hii_values.proofs.OptionLemmas.{options_are_nodes}
 use Rattle.guard_policy.proofs.SupportLemmas.{front}
 
 -- ---- lists

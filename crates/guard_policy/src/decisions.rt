@@ -2,12 +2,13 @@
 
 ghost use Rattle.std.specs.Prelude.{◌≡◌, IfSome, option_and_then, option_map};
 ghost use Rattle.hii_varstore.specs.Stores.{StoreMap};
-ghost use Rattle.ifr_nodes.specs.code.Checked.{IsNodeOf};
+ghost use Rattle.ifr_nodes.specs.code.Checked.{AreNodesOf, IsNodeOf};
 ghost use Rattle.ifr_scopes.specs.code.Lists.{form_node, statement_node};
 ghost use Rattle.ifr_nodes.specs.Nodes.{nodes_of};
 ghost use Rattle.ifr_scopes.specs.code.Parts.{option_node};
 ghost use Rattle.ifr_scopes.specs.declared.statement.Statement.{Statement};
 ghost use Rattle.hii_questions.specs.Fields.{asked};
+ghost use Rattle.hii_questions.specs.code.PlacedLeft.{placed_left};
 ghost use Rattle.hii_questions.specs.code.Views.{question_node, question_view};
 ghost use Rattle.guard_policy.specs.Policy as spec;
 ghost use Rattle.guard_policy.specs.code.Answers as denying;
@@ -22,7 +23,7 @@ use crate::conditions::{ByConditions, Conditions, Evaluated, Verdicts};
 use crate::denial::Denial;
 use crate::effects::Effects;
 use crate::policy::Policy;
-use hii_questions::{DenialKind, Question};
+use hii_questions::{DenialKind, PlacedOptions, Question};
 use hii_varstore::Stores;
 use ifr_scopes::{Form, OptionView, Statement, StatementKind};
 
@@ -302,6 +303,35 @@ impl<'a, 's> Policy<'a, 's> {
         self.question_changeable_with(question, &ByConditions { conditions })
     }
 
+    // Whether one of some options of the package may be chosen, or none is there, with the denials of the guards that were asked
+    // last. The denial is that of the first of them by place.
+    #[inline(never)]
+    fn one_open<V: Verdicts<'a>>(
+        &self,
+        options: PlacedOptions<'_, 'a>,
+        last: Effects,
+        verdicts: &V,
+    ) -> Result<(), Denial>
+        requires nodes { AreNodesOf self.now.forms.now (placed_left options) }
+        requires last { AreEffects (world_by self.now (V.met verdicts.now)) last }
+        ensures { result ≡ denying.unless
+            (spec.all_fixed (world_by self.now (V.met verdicts.now)) (placed_left options.entry)) }
+    {
+        let mut first = None;
+        let mut last = last;
+        let mut options = options;
+        while let Some(option) = options.next() {
+            match self.option_selectable(option, &mut last, verdicts) {
+                Ok(()) => return Ok(()),
+                Err(denial) => first = first.or(Some(denial)),
+            }
+        }
+        match first {
+            Some(denial) => Err(denial),
+            None => Ok(()),
+        }
+    }
+
     /// Whether a question may be given a value of its options, by conditions from anywhere, with the denials of the guards
     /// that were asked last.
     pub(crate) fn option_open_with<V: Verdicts<'a>>(
@@ -317,6 +347,9 @@ impl<'a, 's> Policy<'a, 's> {
             (spec.closed (world_by self.now (V.met verdicts.now))
             (question_node question.entry) value) }
     {
+        if let Some(options) = self.questions.options_with(question, value) {
+            return self.one_open(options, last, verdicts);
+        }
         let mut first = None;
         let mut last = last;
         let mut options = self.forms.options_of(question.statement());

@@ -56,6 +56,13 @@ impl<'a, 's> Policy<'a, 's> {
         self.forms
     }
 
+    /// The questions of the form set.
+    pub fn questions(self) -> &'s Questions<'a>
+        ensures { result.now ≡ self.entry.questions.now }
+    {
+        self.questions
+    }
+
     /// Whether the DISABLE_IF at a place, in bytes from the header of the forms package, was removed when the form set was
     /// opened, with all that stands in its scope.
     pub fn removed(self, place: u32) -> bool

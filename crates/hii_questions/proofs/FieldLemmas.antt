@@ -29,7 +29,7 @@ use Rattle.hii_questions.specs.declared.field_range.FieldRange.{FieldRange}
 use Rattle.hii_questions.specs.declared.merging.Step.{Step}
 use Rattle.hii_questions.specs.laws.Fields.{HaveTheField}
 use Rattle.hii_questions.proofs.EntryLemmas.{found_holds}
-use Rattle.hii_questions.proofs.OrderLemmas.{filter_mapped, kept_at}
+use Rattle.hii_values.proofs.OrderLemmas.{filter_mapped, kept_at}
 use Rattle.hii_questions.proofs.QuestionLemmas.{found_among, found_mapped}
 use Rattle.hii_questions.proofs.StepLemmas.{meets_in}
 

@@ -5,7 +5,6 @@ pub mod EntryLemmas
 pub mod IdLemmas
 pub mod PartLemmas
 pub mod PlaceLemmas
-pub mod OrderLemmas
 pub mod FieldLemmas
 mod WorkedCases
 pub mod RefusalLemmas

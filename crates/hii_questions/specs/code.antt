@@ -13,6 +13,7 @@ pub mod NewBytes
 pub mod Numbers
 pub mod Offers
 pub mod Over
+pub mod PlacedLeft
 pub mod Ranges
 pub mod Steps
 pub mod Survey

@@ -12,6 +12,7 @@ pub mod laws;
 mod locate;
 mod merging;
 mod over;
+mod placed_options;
 mod question;
 mod questions;
 mod questions_by_place;
@@ -30,8 +31,9 @@ pub use hii_values::{
     element_width, first_kind, shown,
 };
 pub use over::Over;
+pub use placed_options::PlacedOptions;
 pub use question::Question;
 pub use questions::Questions;
 pub use questions_by_place::QuestionsByPlace;
 pub use questions_with_field::QuestionsWithField;
-pub use value::{check_value, read_value};
+pub use value::{check_value, check_value_in, read_value};

@@ -3,10 +3,12 @@
 ghost use Rattle.std.specs.Prelude.{◌≡◌, ◌≤◌, IfOk, IfErr, IfSome, filter, length, option_and_then, option_map, vec_capacity};
 ghost use Rattle.std.specs.List.{find};
 ghost use Rattle.hii_bytes.specs.Faults.{HasNone, Refuses, out_of_memory};
-ghost use Rattle.ifr_nodes.specs.Nodes.{nodes_of};
+ghost use Rattle.ifr_nodes.specs.Nodes.{nodes_of, options};
+ghost use Rattle.ifr_nodes.specs.code.Checked.{IsNodeOf};
 ghost use Rattle.ifr_scopes.specs.code.Lists.{statement_node};
 ghost use Rattle.hii_varstore.specs.StoreNodes.{layout_of};
 ghost use Rattle.hii_varstore.specs.Stores.{shape_of};
+ghost use Rattle.hii_values.specs.code.OptionPlaces.{has_value};
 ghost use Rattle.hii_questions.specs.Answers.{answers};
 ghost use Rattle.hii_questions.specs.Faults.{IsQuestionFault};
 ghost use Rattle.hii_questions.specs.Fields.{questions, asked, field_of, question_with, has_field, is_password_in};
@@ -16,9 +18,10 @@ ghost use Rattle.hii_questions.specs.code.Ids.{ids_of};
 ghost use Rattle.hii_questions.specs.code.Lists.{questions_left, with_field_left};
 ghost use Rattle.hii_questions.specs.code.LyingIn.{LieIn};
 ghost use Rattle.hii_questions.specs.code.Over.{answers_over};
+ghost use Rattle.hii_questions.specs.code.PlacedLeft.{placed_left};
 ghost use Rattle.hii_questions.specs.code.Ranges.{range_in};
 ghost use Rattle.hii_questions.specs.code.Tables.{first_at};
-ghost use Rattle.hii_questions.specs.code.Views.{question_view};
+ghost use Rattle.hii_questions.specs.code.Views.{question_node, question_view};
 
 use crate::by_field::{questions_by_field, questions_with};
 use crate::differing::differs;
@@ -26,12 +29,14 @@ use crate::entry::{FieldEntry, QuestionEntry};
 use crate::field_range::FieldRange;
 use crate::merging::Step;
 use crate::over::Over;
+use crate::placed_options::PlacedOptions;
 use crate::question::Question;
 use crate::questions_by_place::QuestionsByPlace;
 use crate::questions_with_field::QuestionsWithField;
 use crate::steps::{first_in, steps_among};
-use crate::tables::{numbers_near, read_questions};
+use crate::tables::{numbers_near, options_of, read_questions};
 use hii_bytes::{Fault, IdTable};
+use hii_values::OptionTable;
 use hii_varstore::{Layout, Stores};
 use ifr_scopes::{Forms, Statement};
 use std::alloc::Global;
@@ -49,6 +54,7 @@ pub struct Questions<'a> {
     by_field: Vec<u32>,
     passwords: Vec<QuestionEntry>,
     password_steps: Vec<Step>,
+    options: OptionTable<'a>,
 }
 
 impl<'a> Drop for Questions<'a> {
@@ -61,11 +67,13 @@ impl<'a> Drop for Questions<'a> {
             by_field: _,
             passwords: _,
             password_steps: _,
+            options: _,
         } = self;
     }
 }
 
 impl<'a> Model for Questions<'a> {
+    ghost use Rattle.std.specs.Prelude.{◌≡◌};
     ghost use Rattle.hii_questions.specs.code.Survey.{Survey};
 
     ghost Value = { Survey };
@@ -75,7 +83,7 @@ impl<'a> Model for Questions<'a> {
     ghost view = { λ s. record { ifr = s.ifr.now } };
 
     ghost invariant = { λ s. AreQuestions s.ifr.now s.by_place.items s.by_id s.by_field.items
-        s.passwords.items s.password_steps.items };
+        s.passwords.items s.password_steps.items × (s.options ≡ s.ifr.now) };
 }
 
 impl<'a> Questions<'a> {
@@ -102,6 +110,7 @@ impl<'a> Questions<'a> {
         let by_id = IdTable::of(numbers)?;
         let password_steps = steps_among(alloc, &passwords)?;
         let near = numbers_near(alloc, &by_place)?;
+        let options = options_of(alloc, forms, &by_place)?;
         Ok(Questions {
             ifr,
             by_place,
@@ -110,6 +119,7 @@ impl<'a> Questions<'a> {
             by_field,
             passwords,
             password_steps,
+            options,
         })
     }
 
@@ -185,6 +195,32 @@ impl<'a> Questions<'a> {
             Ok(at) => Some(Question::kept(self.ifr, self.by_place[at])),
             Err(_) => None,
         }
+    }
+
+    /// The options of questions that have many, by their values.
+    #[inline(always)]
+    pub(crate) fn options(&self) -> &OptionTable<'a>
+        ensures { result.now ≡ self.now.ifr }
+    {
+        &self.options
+    }
+
+    /// The options of a question of the package that have a value, by place, where it has so many options that they are kept by
+    /// their values.
+    #[inline(always)]
+    pub fn options_with(&self, question: Question<'_>, value: u64) -> Option<PlacedOptions<'_, 'a>>
+        requires { IsNodeOf self.now.ifr (question_node question) }
+        ensures { IfSome result (λ placed. placed_left placed
+            ≡ filter (has_value value) (options (question_node question.entry))) }
+    {
+        let found = self.options.with(question.place(), value)?;
+        let before = u32::try_from(found.before).unwrap_or(0);
+        let first = question.statement.position().wrapping_add(1);
+        Some(PlacedOptions {
+            ifr: self.ifr,
+            places: found.places,
+            position: first.wrapping_add(before),
+        })
     }
 
     /// The questions whose field is exactly this one, by place.

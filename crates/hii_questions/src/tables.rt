@@ -1,6 +1,6 @@
 //! The questions of a form set as they are kept.
 
-ghost use Rattle.std.specs.Prelude.{◌≡◌, ◌⊎◌, ◌-◌, ◌++◌, IfOk, IfErr, OnOk, None, Some, filter, length, map, replicate};
+ghost use Rattle.std.specs.Prelude.{◌≡◌, ◌⊎◌, ◌<◌, ◌-◌, ◌++◌, IfOk, IfErr, OnOk, None, Some, filter, length, map, replicate};
 ghost use Rattle.std.specs.List.{flat_map};
 ghost use Rattle.hii_bytes.specs.Faults.{out_of_memory};
 ghost use Rattle.ifr_nodes.specs.Accepted.{IsAccepted};
@@ -18,8 +18,9 @@ use crate::check::check_question;
 use crate::entry::QuestionEntry;
 use crate::question::Question;
 use hii_bytes::{Fault, IdEntry};
+use hii_values::{FEW_OPTIONS, OptionTable};
 use hii_varstore::Layout;
-use ifr_scopes::Forms;
+use ifr_scopes::{Forms, Statement};
 use std::alloc::{AllocError, Global};
 
 /// The questions of a form set by place, the number of each by its id, and those for passwords by place, or the first fault of
@@ -95,4 +96,38 @@ pub(crate) fn numbers_near(
         number = number.wrapping_add(1);
     }
     Ok(near)
+}
+
+// Whether so much stands between a question and the next that it may have many options.
+fn may_have_many(questions: &[QuestionEntry], number: usize) -> bool
+    requires { number < length questions.now }
+{
+    match questions.get(number + 1) {
+        Some(next) => {
+            next.position.wrapping_sub(questions[number].position) as usize > FEW_OPTIONS
+        }
+        None => true,
+    }
+}
+
+/// The options of those of some questions that have many, by their values.
+pub(crate) fn options_of<'a>(
+    alloc: Global,
+    forms: &Forms<'a>,
+    questions: &[QuestionEntry],
+) -> Result<OptionTable<'a>, AllocError>
+    requires accepted { IsAccepted forms.now }
+    requires kept { AreQuestionEntries forms.now questions.now }
+    ensures { IfOk result (λ table. table ≡ forms.now) }
+{
+    let ifr = forms.bytes();
+    let mut table = OptionTable::new(alloc, ifr);
+    for number in 0..questions.len() {
+        if may_have_many(questions, number) {
+            let entry = questions[number];
+            let question = Statement::at(ifr, entry.place, entry.position);
+            table = table.add(alloc, forms, question)?;
+        }
+    }
+    Ok(table)
 }

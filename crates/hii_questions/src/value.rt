@@ -1,8 +1,9 @@
 //! The values of questions, and which they take.
 
-ghost use Rattle.std.specs.Prelude.{◌≡◌, IfOk};
+ghost use Rattle.std.specs.Prelude.{◌≡◌, IfOk, IfSome};
 ghost use Rattle.ifr_expr.specs.Values.{as_number};
 ghost use Rattle.ifr_expr.specs.code.Views.{value_of};
+ghost use Rattle.ifr_nodes.specs.code.Checked.{IsNodeOf};
 ghost use Rattle.hii_values.specs.code.Offers.{offer_of};
 ghost use Rattle.hii_questions.specs.Answers.{value_of_field};
 ghost use Rattle.hii_questions.specs.code.Checks.{Checks, NamesItems};
@@ -11,8 +12,10 @@ ghost use Rattle.hii_questions.specs.code.Views.{question_node, question_view};
 
 use crate::field::Field;
 use crate::question::Question;
+use crate::questions::Questions;
 use hii_values::{
-    DenialKind, FieldType, Input, ValueDenial, content_of, names_options, number_in, value_in,
+    DenialKind, FieldType, Input, OptionTable, ValueDenial, content_of, names_options, number_in,
+    value_in,
 };
 use hii_varstore::Stores;
 use ifr_expr::Value;
@@ -58,6 +61,36 @@ pub fn check_value<'i>(question: Question<'_>, input: Input<'i>) -> Result<Field
     ensures given { Checks (question_view question.entry) (offer_of input.entry) result }
     ensures items { IfOk result (NamesItems (question_view question.entry) (offer_of input.entry)) }
 {
+    check_by(question, None, input)
+}
+
+/// The same of a question of the package of these questions: of many options that of the value is found in a search.
+#[inline(always)]
+pub fn check_value_in<'i>(
+    questions: &Questions<'_>,
+    question: Question<'_>,
+    input: Input<'i>,
+) -> Result<Field<'i>, ValueDenial>
+    requires node { IsNodeOf questions.now.ifr (question_node question) }
+    requires given { IsGiven (question_view question).field input }
+    ensures given { Checks (question_view question.entry) (offer_of input.entry) result }
+    ensures items { IfOk result (NamesItems (question_view question.entry) (offer_of input.entry)) }
+{
+    check_by(question, Some(questions.options()), input)
+}
+
+// The same, where a table of the question's package may tell of options.
+#[inline(always)]
+fn check_by<'i>(
+    question: Question<'_>,
+    table: Option<&OptionTable<'_>>,
+    input: Input<'i>,
+) -> Result<Field<'i>, ValueDenial>
+    requires node { IfSome table (λ t. IsNodeOf t.now (question_node question)) }
+    requires given { IsGiven (question_view question).field input }
+    ensures given { Checks (question_view question.entry) (offer_of input.entry) result }
+    ensures items { IfOk result (NamesItems (question_view question.entry) (offer_of input.entry)) }
+{
     let denied = |kind| ValueDenial::by(kind, question.place());
     let Some(field) = question.field else {
         return Err(denied(DenialKind::Kind));
@@ -65,7 +98,7 @@ pub fn check_value<'i>(question: Question<'_>, input: Input<'i>) -> Result<Field
     let Some(field_type) = FieldType::of(question.statement) else {
         return Err(denied(DenialKind::Kind));
     };
-    match content_of(field_type, input.read_as(field_type)) {
+    match content_of(field_type, input.read_as(field_type), table) {
         Ok(content) => Ok(Field {
             store: field.store,
             offset: field.offset,

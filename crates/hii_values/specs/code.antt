@@ -5,6 +5,8 @@ pub mod Fitting
 pub mod ItemsLeft
 pub mod MetValues
 pub mod Offers
+pub mod OptionPlaces
+pub mod OptionTables
 pub mod StoredLeft
 pub mod TypeViews
 pub mod UnitBlocks

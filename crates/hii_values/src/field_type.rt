@@ -81,6 +81,7 @@ impl<'a> FieldType<'a> {
     ghost use Rattle.hii_values.specs.declared.field_type.TheConstants.{WIDEST_FIELD};
     ghost use Rattle.hii_values.specs.Types.{is_password, type_of};
     ghost use Rattle.hii_values.specs.FieldTypes.{size_of_type};
+    ghost use Rattle.hii_values.specs.code.ChoiceViews.{Asks};
     ghost use Rattle.hii_values.specs.code.TypeViews.{type_in};
 
     /// What the field of a statement holds, if it is a question that may have one.
@@ -89,6 +90,7 @@ impl<'a> FieldType<'a> {
         ensures held { option_map type_in result ≡ type_of (statement_node statement.entry) }
         ensures narrow { is_password (statement_node statement.entry) ≡ false
             → IfSome result (λ t. size_of_type (type_in t) ≤ WIDEST_FIELD) }
+        ensures asks { IfSome result (Asks (statement_node statement.entry)) }
     {
         match statement.kind() {
             StatementKind::Checkbox(_) => Some(FieldType::Checkbox),

@@ -1,12 +1,14 @@
 //! Which values fields take.
 
-ghost use Rattle.std.specs.Prelude.{◌≡◌, ◌*◌, true, Some};
+ghost use Rattle.std.specs.Prelude.{◌≡◌, ◌*◌, true, IfSome, Some};
 ghost use Rattle.byteorder.specs.Endian.{little_bytes};
+ghost use Rattle.ifr_nodes.specs.code.Checked.{IsNodeOf};
+ghost use Rattle.ifr_scopes.specs.code.Lists.{statement_node};
 ghost use Rattle.hii_values.specs.code.Contents.{content_bytes};
 ghost use Rattle.hii_values.specs.code.Fitting.{Gives, names_options, offered_items, one_item};
 ghost use Rattle.hii_values.specs.FieldTypes.{checkbox, size_of_type};
 ghost use Rattle.hii_values.specs.Inputs.{fits_type, numeric_bytes, offered, chosen_bytes, text_bytes, list_bytes};
-ghost use Rattle.hii_values.specs.code.ChoiceViews.{choice_values};
+ghost use Rattle.hii_values.specs.code.ChoiceViews.{AsksIn, choice_values};
 ghost use Rattle.hii_values.specs.code.Widths.{is_width};
 ghost use Rattle.hii_values.specs.code.ItemsLeft.{items_left};
 ghost use Rattle.hii_values.specs.code.Offers.{offer_of, HasList};
@@ -19,17 +21,20 @@ use crate::input::Input;
 use crate::items::Items;
 use crate::lists::check_list;
 use crate::numbers::{bits_of, fitting_bits, shown};
+use crate::option_table::OptionTable;
 use crate::stored_items::StoredItems;
 use crate::texts::{count_within, text_of};
 use hii_bytes::NumberList;
 
-/// What a field is to hold where it takes an input that is not the bytes of a field.
+/// What a field is to hold where it takes an input that is not the bytes of a field. A table of the package may tell of options.
 #[inline(always)]
 pub fn content_of<'i>(
     field_type: FieldType<'_>,
     input: Input<'i>,
+    table: Option<&OptionTable<'_>>,
 ) -> Result<Content<'i>, DenialKind>
-    requires { HasList input }
+    requires list { HasList input }
+    requires known { IfSome table (λ t. AsksIn t.now field_type) }
     ensures { Gives (size_of_type (type_in field_type.entry))
         (fits_type (type_in field_type.entry) (offer_of input.entry))
         (offered_items (type_in field_type.entry) (offer_of input.entry)) result }
@@ -37,7 +42,7 @@ pub fn content_of<'i>(
     match field_type {
         FieldType::Checkbox => checkbox_content(input),
         FieldType::Numeric(numeric) => numeric_content(numeric, input),
-        FieldType::OneOf(one_of) => one_of_content(one_of, input),
+        FieldType::OneOf(one_of) => one_of_content(one_of, input, table),
         FieldType::Text(text) => text_content(text, input),
         FieldType::OrderedList(list) => list_content(list, input),
     }
@@ -111,25 +116,39 @@ fn within_bounds<'i>(numeric: NumericType, bits: Option<u64>) -> Result<Content<
 }
 
 #[inline(always)]
-fn one_of_content<'i>(one_of: OneOfType<'_>, input: Input<'i>) -> Result<Content<'i>, DenialKind>
+fn one_of_content<'i>(
+    one_of: OneOfType<'_>,
+    input: Input<'i>,
+    table: Option<&OptionTable<'_>>,
+) -> Result<Content<'i>, DenialKind>
+    requires { IfSome table (λ t. IsNodeOf t.now (statement_node one_of.choices.question)) }
     ensures { Gives one_of.entry.width
         (fits_type (one_of_in one_of.entry) (offer_of input.entry))
         (offered_items (one_of_in one_of.entry) (offer_of input.entry)) result }
 {
     match input {
-        Input::Number(number) => chosen(one_of, number),
-        Input::Raw(bits) => chosen(one_of, i128::from(bits)),
+        Input::Number(number) => chosen(one_of, number, table),
+        Input::Raw(bits) => chosen(one_of, i128::from(bits), table),
         _ => Err(DenialKind::Kind),
     }
 }
 
 // The number, where an option has it as its value.
-fn chosen<'i>(one_of: OneOfType<'_>, number: i128) -> Result<Content<'i>, DenialKind>
+fn chosen<'i>(
+    one_of: OneOfType<'_>,
+    number: i128,
+    table: Option<&OptionTable<'_>>,
+) -> Result<Content<'i>, DenialKind>
+    requires { IfSome table (λ t. IsNodeOf t.now (statement_node one_of.choices.question)) }
     ensures { Gives one_of.entry.width
         (chosen_bytes one_of.entry.width (offered (choice_values one_of.entry.choices) number))
         (one_item (offered (choice_values one_of.entry.choices) number)) result }
 {
-    match one_of.choices.value(number) {
+    let value = match table {
+        Some(table) => one_of.choices.value_in(table, number),
+        None => one_of.choices.value(number),
+    };
+    match value {
         Some(value) => Ok(number_content(value, one_of.width)),
         None => Err(DenialKind::NoOption),
     }

@@ -2,12 +2,14 @@
 
 ghost use Rattle.std.specs.Prelude.{◌≡◌, true};
 ghost use Rattle.ifr_opcodes.specs.declared.codes.TheConstants.{ONE_OF_OPTION};
+ghost use Rattle.ifr_nodes.specs.Accepted.{IsAccepted};
 ghost use Rattle.ifr_nodes.specs.Nodes.{is_option};
+ghost use Rattle.ifr_nodes.specs.code.Checked.{node_in};
 ghost use Rattle.ifr_nodes.specs.code.Views.{node_of};
 
 use crate::guards_of::GuardsOf;
 use crate::locks::Locks;
-use ifr_nodes::{Node, NodesOf};
+use ifr_nodes::{Node, NodesOf, node_at};
 use ifr_opcodes::OptionOp;
 
 /// An option of a question (UEFI 2.8, 33.3.8.3, EFI_IFR_ONE_OF_OPTION).
@@ -26,7 +28,21 @@ impl<'a> OptionView<'a> {
     ghost use Rattle.ifr_scopes.specs.code.LocksLeft.{locks_left};
     ghost use Rattle.ifr_nodes.specs.Nodes.{nodes_of};
     ghost use Rattle.ifr_scopes.specs.code.Lists.{guards_of_left};
-    ghost use Rattle.ifr_scopes.specs.code.Parts.{option_node, option_package};
+    ghost use Rattle.ifr_scopes.specs.code.Parts.{has_option, option_node, option_package};
+
+    /// The option at a place of an accepted package, in bytes from its header, where one stands, with a position at which it is
+    /// looked for first.
+    #[inline(always)]
+    pub fn at(ifr: &'a [u8], place: u32, position: u32) -> OptionView<'a>
+        requires accepted { IsAccepted ifr.now }
+        requires there { has_option ifr.now place ≡ true }
+        ensures node { option_node result ≡ node_in ifr.entry.now place }
+    {
+        OptionView {
+            node: node_at(ifr, place),
+            position,
+        }
+    }
 
     /// How many forms, statements and options stand before it, if it comes from an index, and else 0: where `Forms` looks
     /// for it first. What is found there is compared with its place.

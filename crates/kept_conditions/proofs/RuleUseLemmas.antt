@@ -6,7 +6,7 @@ use Rattle.std.proofs.lemmas.Bool.{cases_Bool, eq-eqb, ne_eqb, leb-true, le-leb,
 use Rattle.std.proofs.lemmas.List.{get_or-take, get_or-drop}
 use Rattle.std.proofs.lemmas.List.Elements.{filter-append, All-filter}
 use Rattle.std.proofs.lemmas.List.Sorted.{IsPartitionedBy-leb, IsPartitionedBy-ltb, IsNonDecreasingBy-drop}
-use Rattle.hii_questions.proofs.OrderLemmas.{filter_none, filter_all}
+use Rattle.hii_values.proofs.OrderLemmas.{filter_none, filter_all}
 use Rattle.kept_conditions.specs.code.Index.{RulesRise, uses}
 use Rattle.kept_conditions.specs.code.Dependents.{at_number, AreRuleUses}
 use Rattle.kept_conditions.specs.declared.index.RuleUse.{RuleUse}

@@ -19,7 +19,7 @@ use Rattle.ifr_nodes.proofs.PlaceLemmas.{nodes_within, rise}
 use Rattle.ifr_nodes.proofs.RuleFacts.{no_form_around}
 use Rattle.ifr_nodes.proofs.ScopeLemmas.{path_inside}
 use Rattle.ifr_nodes.proofs.ViewLemmas.{further}
-use Rattle.hii_questions.proofs.OrderLemmas.{filter_none}
+use Rattle.hii_values.proofs.OrderLemmas.{filter_none}
 use Rattle.hii_questions.proofs.PartLemmas.{some_within}
 use Rattle.hii_questions.proofs.QuestionLemmas.{among_statements}
 use Rattle.question_audit.specs.FormLines.{form_questions}

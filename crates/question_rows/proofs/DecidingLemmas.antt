@@ -12,7 +12,7 @@ use Rattle.ifr_opcodes.specs.Forest.{Node}
 use Rattle.hii_varstore.proofs.TableLemmas.{is_eq-nat_cmp}
 use Rattle.hii_questions.specs.Fields.{Asked, questions}
 use Rattle.hii_questions.specs.code.Views.{question_view}
-use Rattle.hii_questions.proofs.OrderLemmas.{filter_mapped, kept_at}
+use Rattle.hii_values.proofs.OrderLemmas.{filter_mapped, kept_at}
 use Rattle.question_audit.specs.Audited.{Audited}
 use Rattle.question_audit.specs.Dependences.{all_ids, decided_by, is_decided_by, support_ids, supports}
 use Rattle.question_audit.specs.declared.when.When.{When}

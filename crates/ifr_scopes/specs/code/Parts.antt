@@ -1,8 +1,10 @@
 -- What the iterators over a question's scope have before them.
-use Rattle.std.specs.Prelude.{ℕ, List, [], ◌∷◌}
+use Rattle.std.specs.Prelude.{ℕ, Bool, ◌&&◌, List, [], ◌∷◌}
 use Rattle.ifr_opcodes.specs.declared.codes.TheConstants.{INCONSISTENT_IF, NO_SUBMIT_IF, WARNING_IF}
 use Rattle.ifr_opcodes.specs.declared.op.Op.{Op}
 use Rattle.ifr_opcodes.specs.Forest.{Node}
+use Rattle.ifr_nodes.specs.Nodes.{is_option}
+use Rattle.ifr_nodes.specs.code.Checked.{has_node, node_in}
 use Rattle.ifr_nodes.specs.code.Views.{node_of}
 use Rattle.ifr_scopes.specs.declared.condition_view.ConditionOp.{ConditionOp}
 use Rattle.ifr_scopes.specs.declared.condition_view.ConditionOp.TheVariants as condition
@@ -16,6 +18,10 @@ use Rattle.ifr_scopes.specs.declared.default_view.Defaults.{Defaults}
 
 abbrev pub option_node : OptionView → Node
 option_node option = node_of option.node
+
+-- an option stands at this place of the package
+abbrev pub has_option : List ℕ → ℕ → Bool
+has_option bytes place = has_node bytes place && is_option (node_in bytes place)
 
 abbrev pub option_package : OptionView → List ℕ
 option_package option = option.node.ifr.now

@@ -10,7 +10,8 @@ use Rattle.guard_policy.specs.Policy.{hidden}
 use Rattle.guard_policy.specs.code.Views.{bytes_of}
 use Rattle.form_page.specs.code.PageViews.{world_of}
 use Rattle.form_page.specs.RowValues.{option_with}
-use Rattle.guard_policy.proofs.OptionLemmas.{options_are_nodes, first_of, rest_of}
+use Rattle.hii_values.proofs.OptionLemmas.{options_are_nodes}
+use Rattle.guard_policy.proofs.OptionLemmas.{first_of, rest_of}
 use Rattle.form_page.proofs.option_texts.seen_option.Goals as goal
 
 pub loop-option-init : goal.loop-option-init

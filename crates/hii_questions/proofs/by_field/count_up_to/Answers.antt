@@ -1,31 +1,9 @@
-use Rattle.std.proofs.Common.{◌≡◌, ◌∙◌, ◌<◌, Bool, true, false, List, length, get_or, inl, inr, rules, sym, ap, arith}
-use Rattle.std.specs.List.Sorted.{IsPartitionPoint, IsPartitionedBy}
-use Rattle.std.proofs.lemmas.Bool.{cases_Bool, true≢false}
-use Rattle.std.proofs.lemmas.List.{get_or_default}
+use Rattle.std.proofs.Common.{◌≡◌, ◌∙◌, ◌<◌, false, length, get_or, rules, sym, arith}
 use Rattle.std.proofs.lemmas.List.Sorted.{IsPartitionPoint-from_clause}
+use Rattle.hii_values.proofs.OrderLemmas.{front_none, front_one}
 use Rattle.hii_questions.specs.code.ByField.{is_up_to}
 use Rattle.hii_questions.proofs.by_field.count_up_to.Goals as goal
 use Rattle.hii_questions.proofs.by_field.count_up_to.Goals.{else-numbers-gt1-via-then-numbers-gt1+else-is_up_to, else-numbers-gt1-via-else-numbers-gt1, else-numbers-gt0-via-then-numbers-gt0+else-is_up_to-2, else-numbers-gt0-via-else-numbers-gt0}
-
-module _ {X : Type 0} (p : X → Bool) (xs : List X) (d : X) where
-  none : (0 < length xs → p (get_or xs 0 d) ≡ false) → IsPartitionedBy p xs → IsPartitionPoint (λ x. p x ≡ true) (λ x. p x ≡ false) xs 0
-  none first parted = (
-    λ k e low high. absurd (omega (arith, high)),
-    λ k e low high. elim (cases_Bool (p (get_or xs k e))) [
-      | inl is ↦ absurd (true≢false (sym (parted 0 k e low high is) ∙ ap p (get_or_default xs 0 e d (omega (arith, high))) ∙ first (omega (arith, high))))
-      | inr other ↦ other
-    ],
-  )
-
-  one : 0 < length xs → p (get_or xs 0 d) ≡ true → (1 < length xs → p (get_or xs 1 d) ≡ false) → IsPartitionedBy p xs
-      → IsPartitionPoint (λ x. p x ≡ true) (λ x. p x ≡ false) xs 1
-  one some first second parted = (
-    λ k e low high. let zero : k ≡ 0 = omega (arith, high) in ap (λ n. p (get_or xs n e)) zero ∙ ap p (get_or_default xs 0 e d some) ∙ first,
-    λ k e low high. elim (cases_Bool (p (get_or xs k e))) [
-      | inl is ↦ absurd (true≢false (sym (parted 1 k e low high is) ∙ ap p (get_or_default xs 1 e d (omega (arith, low, high))) ∙ second (omega (arith, low, high))))
-      | inr other ↦ other
-    ],
-  )
 
 pub returns-then-is_up_to-clause-point : goal.returns-then-is_up_to-clause-point
 returns-then-is_up_to-clause-point c = IsPartitionPoint-from_clause (is_up_to c.args.questions.now c.args.field) c.args.numbers.now c.partition_point.result c.partition_point.ensures.partitioned c.requires (λ a r q called. search rules)
@@ -38,7 +16,7 @@ returns-then-is_up_to-2-clause-point c =
       | else-numbers-gt1-via-then-numbers-gt1+else-is_up_to w ↦ λ lt. sym w.is_up_to.ensures ∙ w.if-is_up_to.false
       | else-numbers-gt1-via-else-numbers-gt1 w ↦ λ lt. absurd (omega (arith, w.if-numbers-gt1.false, lt))
     ] in
-    one up xs 0 c.if-numbers-gt0.true (sym c.is_up_to-then-numbers-gt0.ensures ∙ c.if-is_up_to-2.true) second c.requires
+    front_one up xs 0 c.if-numbers-gt0.true (sym c.is_up_to-then-numbers-gt0.ensures ∙ c.if-is_up_to-2.true) second c.requires
 
 pub returns-clause-point : goal.returns-clause-point
 returns-clause-point c =
@@ -48,4 +26,4 @@ returns-clause-point c =
       | else-numbers-gt0-via-then-numbers-gt0+else-is_up_to-2 w ↦ λ lt. sym w.is_up_to-then-numbers-gt0.ensures ∙ w.if-is_up_to-2.false
       | else-numbers-gt0-via-else-numbers-gt0 w ↦ λ lt. absurd (omega (arith, w.if-numbers-gt0.false, lt))
     ] in
-    none up xs 0 first c.requires
+    front_none up xs 0 first c.requires

@@ -4,7 +4,7 @@ use Rattle.std.proofs.lemmas.List.{take_rest}
 use Rattle.std.proofs.lemmas.List.Sorted.{IsPartitionPoint-from_clause}
 use Rattle.hii_questions.specs.code.ByField.{numbered_field, range_cmp}
 use Rattle.hii_questions.proofs.FieldLemmas.{range_total, ties_at}
-use Rattle.hii_questions.proofs.OrderLemmas.{found_between, parted_le, parted_lt}
+use Rattle.hii_values.proofs.OrderLemmas.{found_between, parted_le, parted_lt}
 use Rattle.hii_questions.proofs.by_field.questions_with.Goals as goal
 
 pub count_up_to-requires : goal.count_up_to-requires

@@ -3,7 +3,7 @@ use Rattle.std.specs.Ordering.{nat_cmp}
 use Rattle.std.proofs.lemmas.Cmp.{nat_cmp_total}
 use Rattle.std.proofs.lemmas.List.{take_rest}
 use Rattle.std.proofs.lemmas.List.Sorted.{IsPartitionPoint-from_clause}
-use Rattle.hii_questions.proofs.OrderLemmas.{found_between, parted_le, parted_lt}
+use Rattle.hii_values.proofs.OrderLemmas.{found_between, parted_le, parted_lt}
 use Rattle.question_rows.specs.declared.decisions.Decision.{Decision}
 use Rattle.question_rows.proofs.decisions.decisions_by.Goals as goal
 

@@ -7,7 +7,8 @@ use Rattle.ifr_scopes.specs.code.OptionsLeft.{options_of_left}
 use Rattle.ifr_scopes.specs.code.Parts.{option_node}
 use Rattle.hii_questions.specs.code.Views.{question_node}
 use Rattle.guard_policy.specs.code.Views.{bytes_of}
-use Rattle.guard_policy.proofs.OptionLemmas.{first_of, options_are_nodes, rest_of}
+use Rattle.hii_values.proofs.OptionLemmas.{options_are_nodes}
+use Rattle.guard_policy.proofs.OptionLemmas.{first_of, rest_of}
 use Rattle.question_audit.specs.code.Pages.{audited}
 use Rattle.question_rows.specs.Options.{option_item}
 use Rattle.question_rows.proofs.RunLemmas.{runs_end, runs_first, runs_next, runs_start}

@@ -6,7 +6,8 @@ use Rattle.ifr_nodes.specs.Nodes.{options}
 use Rattle.ifr_scopes.specs.code.Parts.{option_node}
 use Rattle.ifr_scopes.specs.declared.option_view.OptionView.{OptionView}
 use Rattle.hii_questions.specs.code.Views.{question_node}
-use Rattle.guard_policy.proofs.OptionLemmas.{options_are_nodes, first_of}
+use Rattle.hii_values.proofs.OptionLemmas.{options_are_nodes}
+use Rattle.guard_policy.proofs.OptionLemmas.{first_of}
 use Rattle.session_tests.proofs.policies.first_option.Goals as goal
 
 first_node : (bytes : List ℕ) (left : List Node) (first : Option OptionView) (rest : List Node) → MatchOption first ((left ≡ []) × (rest ≡ [])) (λ o. left ≡ option_node o ∷ rest)

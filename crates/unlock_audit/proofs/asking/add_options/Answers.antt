@@ -7,7 +7,8 @@ use Rattle.ifr_scopes.specs.code.Lists.{guard_node}
 use Rattle.ifr_scopes.specs.code.Parts.{option_node}
 use Rattle.hii_questions.specs.code.Views.{question_node}
 use Rattle.guard_policy.specs.code.Views.{bytes_of}
-use Rattle.guard_policy.proofs.OptionLemmas.{options_are_nodes, rest_of}
+use Rattle.hii_values.proofs.OptionLemmas.{options_are_nodes}
+use Rattle.guard_policy.proofs.OptionLemmas.{rest_of}
 use Rattle.question_audit.specs.OptionFacts.{own_guards}
 use Rattle.unlock_audit.proofs.AskingLemmas.{each_added}
 use Rattle.unlock_audit.proofs.asking.add_options.Goals as goal

@@ -7,7 +7,8 @@ use Rattle.ifr_scopes.specs.code.Lists.{statement_node}
 use Rattle.ifr_scopes.specs.code.OptionsLeft.{options_of_left}
 use Rattle.ifr_scopes.specs.code.Parts.{option_node}
 use Rattle.guard_policy.specs.code.Views.{bytes_of}
-use Rattle.guard_policy.proofs.OptionLemmas.{options_are_nodes, first_of, rest_of}
+use Rattle.hii_values.proofs.OptionLemmas.{options_are_nodes}
+use Rattle.guard_policy.proofs.OptionLemmas.{first_of, rest_of}
 use Rattle.form_page.specs.code.PageViews.{world_of}
 use Rattle.form_page.specs.code.SeenTexts.{AreFound, seen_text, text_among}
 use Rattle.form_page.specs.declared.seen_texts.SeenText.{SeenText}

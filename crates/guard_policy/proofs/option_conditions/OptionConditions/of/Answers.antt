@@ -8,7 +8,7 @@ use Rattle.ifr_nodes.specs.Nodes.{options}
 use Rattle.ifr_scopes.specs.code.OptionsLeft.{options_of_left}
 use Rattle.hii_questions.specs.code.Views.{question_node}
 use Rattle.guard_policy.specs.laws.Support.{around}
-use Rattle.guard_policy.proofs.OptionLemmas.{options_are_nodes}
+use Rattle.hii_values.proofs.OptionLemmas.{options_are_nodes}
 use Rattle.guard_policy.proofs.option_conditions.OptionConditions.of.Goals as goal
 
 pub invariant_of-result : goal.invariant_of-result

@@ -10,7 +10,8 @@ use Rattle.hii_questions.specs.code.Views.{question_node}
 use Rattle.guard_policy.specs.code.OpenValues.{opens}
 use Rattle.guard_policy.specs.code.Views.{world_by}
 use Rattle.guard_policy.proofs.ClosedLemmas.{one_more}
-use Rattle.guard_policy.proofs.OptionLemmas.{options_are_nodes, first_of, rest_of}
+use Rattle.hii_values.proofs.OptionLemmas.{options_are_nodes}
+use Rattle.guard_policy.proofs.OptionLemmas.{first_of, rest_of}
 use Rattle.guard_policy.proofs.policy.Policy.open_values_with.Goals as goal
 
 pub loop-option-init : goal.loop-option-init

@@ -23,7 +23,7 @@ returns-in-Ok c =
     let equal = c.in-Ok.ensures.position (λ e. e.place) (answers_always _ _ _ (λ f a r g called. search rules)) in
     let found = subst (λ (es : List QuestionEntry). (at < length es) × IsBinarySearchResult (λ e. nat_cmp e.place place) es (Ok at)) c.deref-2.ensures.value (c.in-Ok.ensures.bound, equal) in
     ap (λ (a : Asked). Some a) (c.kept-in-Ok.ensures ∙ ap (entry_view s.ifr.now) c.index.ensures)
-    ∙ found_at s.ifr.now s.by_place.items s.by_id s.by_field.items s.passwords.items s.password_steps.items c.self.invariant place at c.index.result.now found.0 found.1
+    ∙ found_at s.ifr.now s.by_place.items s.by_id s.by_field.items s.passwords.items s.password_steps.items c.self.invariant.0 place at c.index.result.now found.0 found.1
     ∙ ap (λ (v : Survey). first_at (questions (nodes_of v.ifr)) place) c.self.view_is
 
 pub returns-in-Err : goal.returns-in-Err
@@ -33,7 +33,7 @@ returns-in-Err c =
     let s = c.self.inside in
     let parted = c.in-Err.ensures.position (λ e. e.place) (answers_always _ _ _ (λ f a r g called. search rules)) in
     let missing = subst (λ (es : List QuestionEntry). (at ≤ length es) × IsBinarySearchResult (λ e. nat_cmp e.place place) es (Err at)) c.deref-2.ensures.value (c.in-Err.ensures.bound, parted) in
-    none_at s.ifr.now s.by_place.items s.by_id s.by_field.items s.passwords.items s.password_steps.items c.self.invariant place at missing.0 missing.1
+    none_at s.ifr.now s.by_place.items s.by_id s.by_field.items s.passwords.items s.password_steps.items c.self.invariant.0 place at missing.0 missing.1
     ∙ ap (λ (v : Survey). first_at (questions (nodes_of v.ifr)) place) c.self.view_is
 
 pub returns-then-entry-place : goal.returns-then-entry-place
@@ -50,5 +50,5 @@ returns-then-entry-place c =
     grind (arith, nat_tests) in
     let found = subst (λ (es : List QuestionEntry). (at < length es) × IsBinarySearchResult (λ e. nat_cmp e.place place) es (Ok at)) c.deref.ensures.value (within, equal) in
     ap (λ (a : Asked). Some a) (c.kept.ensures ∙ ap (entry_view s.ifr.now) (here ∙ ap (λ (l : List QuestionEntry). get_or l at entry) c.deref.ensures.value))
-    ∙ found_at s.ifr.now s.by_place.items s.by_id s.by_field.items s.passwords.items s.password_steps.items c.self.invariant place at entry found.0 found.1
+    ∙ found_at s.ifr.now s.by_place.items s.by_id s.by_field.items s.passwords.items s.password_steps.items c.self.invariant.0 place at entry found.0 found.1
     ∙ ap (λ (v : Survey). first_at (questions (nodes_of v.ifr)) place) c.self.view_is

@@ -17,7 +17,7 @@ use Rattle.hii_questions.proofs.questions.Questions.differing_into.Goals.{After-
 -- what is kept is of all questions
 all_kept : (c : After-deref-entry-items) → map (entry_view c.self.inside.ifr.now) c.deref-entry-items.result.now ≡ questions (nodes_of c.args.self.now.ifr)
 all_kept c =
-    ap (map (entry_view c.self.inside.ifr.now)) c.deref-entry-items.ensures.value ∙ c.self.invariant.placed
+    ap (map (entry_view c.self.inside.ifr.now)) c.deref-entry-items.ensures.value ∙ c.self.invariant.0.placed
     ∙ ap (λ (v : Survey). questions (nodes_of v.ifr)) c.self.view_is
 
 pub differs-requires-clause-lies : goal.differs-requires-clause-lies
@@ -27,7 +27,7 @@ differs-requires-clause-lies c ifr =
 
 pub kept-requires-clause-kept : goal.kept-requires-clause-kept
 kept-requires-clause-kept c =
-    let kept = subst (AreQuestionEntries c.self.inside.ifr.now) (sym c.deref-entry-items.ensures.value) c.self.invariant.kept in
+    let kept = subst (AreQuestionEntries c.self.inside.ifr.now) (sym c.deref-entry-items.ensures.value) c.self.invariant.0.kept in
     kept c.loop-entry.entry-index _ c.loop-entry-test.true
 
 pub push_reserved-requires : goal.push_reserved-requires

@@ -18,7 +18,7 @@ found c = c.first_in.ensures ∙ ap (λ (es : List QuestionEntry). find (λ e. m
 pub kept-requires-clause-kept : goal.kept-requires-clause-kept
 kept-requires-clause-kept c =
     let s = c.self.inside in
-    password_kept s.ifr.now s.by_place.items s.by_id s.by_field.items s.passwords.items s.password_steps.items c.self.invariant c.args.field c.in_ok-entry.entry
+    password_kept s.ifr.now s.by_place.items s.by_id s.by_field.items s.passwords.items s.password_steps.items c.self.invariant.0 c.args.field c.in_ok-entry.entry
     (sym (found (goal.at.kept-requires-clause-kept c).After-first_in) ∙ c.in_ok-entry.was)
 
 pub returns : goal.returns
@@ -26,7 +26,7 @@ returns c =
     let f = c.args.field in
     let s = c.self.inside in
     ap (λ (a : Asked). Some a) c.kept.ensures ∙ ap (option_map (entry_view s.ifr.now)) (sym c.in_ok-entry.was ∙ found (goal.at.returns c).After-first_in)
-    ∙ first_password s.ifr.now s.by_place.items s.by_id s.by_field.items s.passwords.items s.password_steps.items c.self.invariant f
+    ∙ first_password s.ifr.now s.by_place.items s.by_id s.by_field.items s.passwords.items s.password_steps.items c.self.invariant.0 f
     ∙ ap (λ (v : Survey). find (is_password_in (range_in f)) (questions (nodes_of v.ifr))) c.self.view_is
 
 pub returns-in_err-entry : goal.returns-in_err-entry
@@ -34,5 +34,5 @@ returns-in_err-entry c =
     let f = c.args.field in
     let s = c.self.inside in
     ap (option_map question_view) c.from_residual.ensures ∙ ap (option_map (entry_view s.ifr.now)) (sym c.in_err-entry.was ∙ found (goal.at.returns-in_err-entry c).After-first_in)
-    ∙ first_password s.ifr.now s.by_place.items s.by_id s.by_field.items s.passwords.items s.password_steps.items c.self.invariant f
+    ∙ first_password s.ifr.now s.by_place.items s.by_id s.by_field.items s.passwords.items s.password_steps.items c.self.invariant.0 f
     ∙ ap (λ (v : Survey). find (is_password_in (range_in f)) (questions (nodes_of v.ifr))) c.self.view_is

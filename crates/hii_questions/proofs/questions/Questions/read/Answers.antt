@@ -46,16 +46,19 @@ questions_by_field-requires c =
 pub invariant_of-result : goal.invariant_of-result
 invariant_of-result c =
     let read = c.in_ok-by_place.ensures in
-    rw c.bytes-ifr.ensures.bytes record {
-      accepted = c.bytes-ifr.ensures.accepted;
-      placed = read.placed;
-      kept = read.kept;
-      rise = questions_rise c.args.forms.now c.in_ok-by_place.by_place.items c.bytes-ifr.ensures.accepted read.kept read.placed;
-      found = subst (λ (l : List IdEntry). (id : ℕ) → number_with c.in_ok-by_id.by_id id ≡ number_with l id) read.numbered c.in_ok-by_id.ensures;
-      ordered = subst (λ (l : List QuestionEntry). AreByField l c.in_ok-by_field.by_field.items) c.deref.ensures.value c.in_ok-by_field.ensures;
-      secret = read.secret;
-      told = subst (λ (l : List QuestionEntry). AreSteps l c.in_ok-password_steps.password_steps.items) c.deref-2.ensures.value c.in_ok-password_steps.ensures;
-    }
+    rw c.bytes-ifr.ensures.bytes (
+      record {
+        accepted = c.bytes-ifr.ensures.accepted;
+        placed = read.placed;
+        kept = read.kept;
+        rise = questions_rise c.args.forms.now c.in_ok-by_place.by_place.items c.bytes-ifr.ensures.accepted read.kept read.placed;
+        found = subst (λ (l : List IdEntry). (id : ℕ) → number_with c.in_ok-by_id.by_id id ≡ number_with l id) read.numbered c.in_ok-by_id.ensures;
+        ordered = subst (λ (l : List QuestionEntry). AreByField l c.in_ok-by_field.by_field.items) c.deref.ensures.value c.in_ok-by_field.ensures;
+        secret = read.secret;
+        told = subst (λ (l : List QuestionEntry). AreSteps l c.in_ok-password_steps.password_steps.items) c.deref-2.ensures.value c.in_ok-password_steps.ensures;
+      },
+      c.in_ok-options.ensures,
+    )
 
 pub returns-clause-sound : goal.returns-clause-sound
 returns-clause-sound c = sound_among c.args.forms.now c.in_ok-by_place.ensures.sound

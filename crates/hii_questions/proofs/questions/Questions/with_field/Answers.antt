@@ -20,15 +20,15 @@ found c =
 pub questions_with-numbers-requires : goal.questions_with-numbers-requires
 questions_with-numbers-requires c =
     subst (λ (es : List QuestionEntry). FieldsRise es c.deref-2.result.now) (sym c.deref.ensures.value)
-    (subst (FieldsRise c.self.inside.by_place.items) (sym c.deref-2.ensures.value) c.self.invariant.ordered.rise)
+    (subst (FieldsRise c.self.inside.by_place.items) (sym c.deref-2.ensures.value) c.self.invariant.0.ordered.rise)
 
 pub over-requires-clause-kept : goal.over-requires-clause-kept
-over-requires-clause-kept c = subst (AreQuestionEntries c.self.inside.ifr.now) (sym c.deref-3.ensures.value) c.self.invariant.kept
+over-requires-clause-kept c = subst (AreQuestionEntries c.self.inside.ifr.now) (sym c.deref-3.ensures.value) c.self.invariant.0.kept
 
 pub over-requires-clause-within : goal.over-requires-clause-within
 over-requires-clause-within c =
     let s = c.self.inside in
-    let within = fields_within s.ifr.now s.by_place.items s.by_id s.by_field.items s.passwords.items s.password_steps.items c.self.invariant c.args.field in
+    let within = fields_within s.ifr.now s.by_place.items s.by_id s.by_field.items s.passwords.items s.password_steps.items c.self.invariant.0 c.args.field in
     subst (λ (es : List QuestionEntry). AreNumbers es c.questions_with-numbers.result.now) (sym c.deref-3.ensures.value)
     (subst (AreNumbers s.by_place.items) (sym (found (goal.at.over-requires-clause-within c).After-questions_with-numbers)) within)
 
@@ -39,5 +39,5 @@ returns c =
     let ns = c.questions_with-numbers.result.now in
     c.over.ensures ∙ ap (λ (es : List QuestionEntry). map (entry_view s.ifr.now) (entries_at es ns)) c.deref-3.ensures.value
     ∙ ap (λ (l : List ℕ). map (entry_view s.ifr.now) (entries_at s.by_place.items l)) (found (goal.at.returns c).After-questions_with-numbers)
-    ∙ fields_are s.ifr.now s.by_place.items s.by_id s.by_field.items s.passwords.items s.password_steps.items c.self.invariant f
+    ∙ fields_are s.ifr.now s.by_place.items s.by_id s.by_field.items s.passwords.items s.password_steps.items c.self.invariant.0 f
     ∙ ap (λ (v : Survey). filter (has_field (range_in f)) (questions (nodes_of v.ifr))) c.self.view_is

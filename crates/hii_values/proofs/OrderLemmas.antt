@@ -1,13 +1,13 @@
 -- Things in the order of their keys, and those of one key.
-use Rattle.std.proofs.Common.{◌≡◌, ◌⊎◌, ℕ, zero, suc, ◌+◌, ◌-◌, ◌≤◌, Bool, true, false, not, ◌&&◌, List, [], ◌∷◌, ◌++◌, length, get_or, take, drop, refl, sym, ap, ◌∙◌, arith, inl, inr, map, filter, is_eq, is_lt, is_le, length-take, length-drop, take-append-drop, append-nil}
+use Rattle.std.proofs.Common.{◌≡◌, ◌⊎◌, ℕ, zero, suc, ◌+◌, ◌-◌, ◌≤◌, ◌<◌, Bool, true, false, not, ◌&&◌, List, [], ◌∷◌, ◌++◌, length, get_or, take, drop, refl, sym, ap, ◌∙◌, arith, inl, inr, map, filter, is_eq, is_lt, is_le, length-take, length-drop, take-append-drop, append-nil}
 use Rattle.std.specs.Prelude.{All}
 use Rattle.std.specs.Cmp.{IsTotalOrder, Equal-is, alike_right}
 use Rattle.std.specs.List.Sorted.{IsNonDecreasingBy, IsPartitionPoint, IsPartitionedBy, IsPermutation, IsSortedByKey, IsStableByKey, ties}
 use Rattle.std.specs.declared.cmp.Ordering.{Ordering}
 use Rattle.std.specs.declared.cmp.Ordering.TheVariants.{Less, Equal, Greater}
 use Rattle.std.specs.Ordering.{ordering_index, ordering_reverse}
-use Rattle.std.proofs.lemmas.Bool.{cases_Bool}
-use Rattle.std.proofs.lemmas.List.{get_or-take, get_or-drop}
+use Rattle.std.proofs.lemmas.Bool.{cases_Bool, true≢false}
+use Rattle.std.proofs.lemmas.List.{get_or-take, get_or-drop, get_or_default}
 use Rattle.std.proofs.lemmas.List.Elements.{filter-append}
 use Rattle.std.proofs.lemmas.List.Sorted.{All-permutation, searchable_from_sorted}
 
@@ -151,3 +151,25 @@ module _ {X K : Type 0} {R : K → K → Ordering} (o : IsTotalOrder R) (key : X
       ∙ ap (λ l. take count rest ++ l) behind ∙ append-nil (take count rest) in
       let split : xs ≡ take from xs ++ rest = sym (take-append-drop from xs) ∙ ap (λ l. take from xs ++ l) (sym is) in
       sym (ap (filter is_at) split ∙ filter-append is_at (take from xs) rest ∙ ap (λ l. l ++ filter is_at rest) before ∙ second)
+
+-- ---- a front of one thing, or of none
+
+module _ {X : Type 0} (p : X → Bool) (xs : List X) (d : X) where
+  pub front_none : (0 < length xs → p (get_or xs 0 d) ≡ false) → IsPartitionedBy p xs → IsPartitionPoint (λ x. p x ≡ true) (λ x. p x ≡ false) xs 0
+  front_none first parted = (
+    λ k e low high. absurd (omega (arith, high)),
+    λ k e low high. elim (cases_Bool (p (get_or xs k e))) [
+      | inl is ↦ absurd (true≢false (sym (parted 0 k e low high is) ∙ ap p (get_or_default xs 0 e d (omega (arith, high))) ∙ first (omega (arith, high))))
+      | inr other ↦ other
+    ],
+  )
+
+  pub front_one : 0 < length xs → p (get_or xs 0 d) ≡ true → (1 < length xs → p (get_or xs 1 d) ≡ false) → IsPartitionedBy p xs
+      → IsPartitionPoint (λ x. p x ≡ true) (λ x. p x ≡ false) xs 1
+  front_one some first second parted = (
+    λ k e low high. let zero : k ≡ 0 = omega (arith, high) in ap (λ n. p (get_or xs n e)) zero ∙ ap p (get_or_default xs 0 e d some) ∙ first,
+    λ k e low high. elim (cases_Bool (p (get_or xs k e))) [
+      | inl is ↦ absurd (true≢false (sym (parted 1 k e low high is) ∙ ap p (get_or_default xs 1 e d (omega (arith, low, high))) ∙ second (omega (arith, low, high))))
+      | inr other ↦ other
+    ],
+  )

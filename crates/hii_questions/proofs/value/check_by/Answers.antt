@@ -10,7 +10,7 @@ use Rattle.hii_values.specs.Items.{filled}
 use Rattle.hii_values.specs.Types.{type_of}
 use Rattle.hii_questions.specs.code.Views.{question_node}
 use Rattle.hii_questions.proofs.NamedLemmas.{new_items_named}
-use Rattle.hii_questions.proofs.value.check_value.Goals as goal
+use Rattle.hii_questions.proofs.value.check_by.Goals as goal
 
 pub returns-in-Ok-clause-items : goal.returns-in-Ok-clause-items
 returns-in-Ok-clause-items c =
