@@ -25,5 +25,6 @@ pub mod RangeLemmas
 pub mod ReasonLemmas
 pub mod GuardLemmas
 pub mod NamingLemmas
+pub mod ClosureLemmas
 pub mod OwnLemmas
 pub mod OptionLemmas

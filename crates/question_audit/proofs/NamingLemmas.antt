@@ -23,12 +23,13 @@ use Rattle.ifr_nodes.specs.Nodes.{nodes_of}
 use Rattle.ifr_nodes.specs.Rules.{as_rule, rule_nodes, rules_among}
 use Rattle.ifr_scopes.proofs.RuleLookupLemmas.{named_none, named_some}
 use Rattle.ifr_scopes.proofs.RulesOrderedLemmas.{are_ordered}
+use Rattle.question_audit.specs.code.NamedRules.{named_by}
 use Rattle.question_audit.specs.RuleFacts.{condition_references, names_rule, references_over, rule_references, stands_at}
 
 -- ---- what a reference names in turn is what the rule names that it names
 
 -- a reference and those behind it
-abbrev with_behind : (ℕ → ℕ → List RuleReference) → RuleReference → List RuleReference
+abbrev pub with_behind : (ℕ → ℕ → List RuleReference) → RuleReference → List RuleReference
 with_behind behind r = r ∷ behind r.id r.place
 
 near : (f g : ℕ → ℕ → List RuleReference) (ends : ℕ) (ops : List Mark) → ((id place : ℕ) → place < ends → f id place ≡ g id place) → Below ends ops
@@ -65,10 +66,6 @@ no_references (q ∷ earlier) id place e = elim (cases_Bool (names id place q)) 
   | inr is ↦ skipped q earlier id place is ∙ no_references earlier id place (sym (cond-false (names id place q) (Some q) (named earlier id place) is) ∙ e)
 ]
 
--- the node of the rule that a reference names
-abbrev named_by : List Node → RuleReference → Option Node
-named_by ns r = find (λ n. names r.id r.place (as_rule n)) (rule_nodes ns)
-
 pub rule_behind : (bytes : List ℕ) (r : RuleReference) (n : Node) → IsChecked bytes → Some n ≡ named_by (nodes_of bytes) r
     → rule_references (rules_among (nodes_of bytes)) r.id r.place ≡ references_over (rule_references (rules_among (nodes_of bytes))) (as_rule n).tree
 rule_behind bytes r n checked e =
@@ -88,6 +85,17 @@ frames_left rules frames = flat_map (all_left rules) (reverse frames)
 
 pub with_frame : (rules : List Rule) (frames new : List RuleReferences) (it : RuleReferences) → new ≡ frames ++ it ∷ [] → frames_left rules new ≡ all_left rules it ++ frames_left rules frames
 with_frame rules frames new it e = ap (λ (l : List RuleReferences). flat_map (all_left rules) l) (ap reverse e ∙ reverse-append frames (it ∷ []))
+
+-- those alone, without those behind them
+abbrev pub named_left : List RuleReferences → List RuleReference
+named_left frames = flat_map references_left (reverse frames)
+
+pub with_named : (frames new : List RuleReferences) (it : RuleReferences) → new ≡ frames ++ it ∷ [] → named_left new ≡ references_left it ++ named_left frames
+with_named frames new it e = ap (λ (l : List RuleReferences). flat_map references_left l) (ap reverse e ∙ reverse-append frames (it ∷ []))
+
+pub named_went : (old below new : List RuleReferences) (it next : RuleReferences) (r : RuleReference) → old ≡ below ++ it ∷ [] → new ≡ below ++ next ∷ [] → references_left it ≡ r ∷ references_left next → named_left old ≡ r ∷ named_left new
+named_went old below new it next r e f steps =
+    with_named below old it e ∙ ap (λ (l : List RuleReference). l ++ named_left below) steps ∙ ap (λ (l : List RuleReference). r ∷ l) (sym (with_named below new next f))
 
 -- the one on top is at its end
 pub frame_ended : (rules : List Rule) (old below : List RuleReferences) (it : RuleReferences) → old ≡ below ++ it ∷ [] → references_left it ≡ [] → frames_left rules old ≡ frames_left rules below
@@ -130,26 +138,6 @@ passed_over ns old below new it next r e f steps none =
 abbrev pub IsNamedSoFar : List Node → (ℕ → Bool) → (ℕ → Bool) → List RuleReference → List RuleReference → Type 0
 IsNamedSoFar ns had has all left =
     (place : ℕ) → has place || list_any (names_rule ns place) left ≡ had place || list_any (names_rule ns place) all
-
-swap : (a b c : Bool) → (a || b) || c ≡ b || (a || c)
-swap true true c = refl
-swap true false c = refl
-swap false b c = refl
-
--- the rule that the next reference names is added
-pub one_named : (ns : List Node) (had has new : ℕ → Bool) (all left rest : List RuleReference) (r : RuleReference) (n : Node) → left ≡ r ∷ rest → Some n ≡ named_by ns r → ((place : ℕ) → new place ≡ n.place == place || has place)
-    → IsNamedSoFar ns had has all left → IsNamedSoFar ns had new all rest
-one_named ns had has new all left rest r n e is added so place =
-    let here : names_rule ns place r ≡ n.place == place = ap (stands_at place) (sym is) in
-    let next : list_any (names_rule ns place) left ≡ n.place == place || list_any (names_rule ns place) rest = ap (list_any (names_rule ns place)) e ∙ ap (λ (b : Bool). b || list_any (names_rule ns place) rest) here in
-    ap (λ (b : Bool). b || list_any (names_rule ns place) rest) (added place) ∙ swap (n.place == place) (has place) (list_any (names_rule ns place) rest) ∙ ap (λ (b : Bool). has place || b) (sym next) ∙ so place
-
--- or it names none
-pub none_named : (ns : List Node) (had has : ℕ → Bool) (all left rest : List RuleReference) (r : RuleReference) → left ≡ r ∷ rest → ◌≡◌ {A = Option Node} None (named_by ns r) → IsNamedSoFar ns had has all left → IsNamedSoFar ns had has all rest
-none_named ns had has all left rest r e none so place =
-    let here : names_rule ns place r ≡ false = ap (stands_at place) (sym none) in
-    let next : list_any (names_rule ns place) left ≡ list_any (names_rule ns place) rest = ap (list_any (names_rule ns place)) e ∙ ap (λ (b : Bool). b || list_any (names_rule ns place) rest) here in
-    ap (λ (b : Bool). has place || b) (sym next) ∙ so place
 
 -- ---- condition by condition
 

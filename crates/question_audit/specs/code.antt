@@ -13,6 +13,7 @@ pub mod Looking
 pub mod Beginnings
 pub mod Naming
 pub mod Places
+pub mod NamedRules
 pub mod Ids
 pub mod ReasonParts
 pub mod ReasonsLeft

@@ -16,6 +16,7 @@ ghost use Rattle.question_audit.specs.code.Pages.{audited};
 ghost use Rattle.question_audit.specs.ConditionFacts.{checks};
 ghost use Rattle.question_audit.specs.RuleFacts.{condition_references, inner_guards, is_named, names_rule, references_over, rule_fact, rule_facts, rule_references};
 ghost use Rattle.question_audit.specs.code.Beginnings.{Begins};
+ghost use Rattle.question_audit.specs.code.NamedRules.{IsClosed};
 ghost use Rattle.question_audit.specs.code.Places.{has_place};
 
 use crate::facts::put_column;
@@ -33,16 +34,19 @@ use std::alloc::{AllocError, Global};
 use std::collections::BTreeSet;
 use std::io::Write;
 
-// Adds the places of the rules that an expression names, and of those that these name in turn.
-fn add_named<'a>(
+/// Adds the places of the rules that an expression names, and of those that these name in turn. A rule whose place is there is not looked
+/// at again.
+pub(crate) fn add_named<'a>(
     alloc: Global,
     forms: &Forms<'a>,
     expression: Expr<'a>,
     places: &mut BTreeSet<u32>,
 ) -> Result<(), AllocError>
-    ensures { OnOk result ((place : ℕ) → has_place places.new place ≡ (has_place places.old place
+    requires { IsClosed (nodes_of forms.now) (has_place places.old) }
+    ensures places { OnOk result ((place : ℕ) → has_place places.new place ≡ (has_place places.old place
         || list_any (names_rule (nodes_of forms.now) place)
         (references_over (rule_references (rules_among (nodes_of forms.now))) (tree_of expression.entry)))) }
+    ensures closed { OnOk result (IsClosed (nodes_of forms.now) (has_place places.new)) }
 {
     // The package is accepted, so that no rule names one behind it.
     forms.bytes();
@@ -54,8 +58,9 @@ fn add_named<'a>(
         };
         frames.push(references)?;
         if let Some(rule) = forms.rule_named(reference.id, reference.place) {
-            add_place(places, rule.place())?;
-            frames.push(rule.expression().references())?;
+            if add_place(places, rule.place())? {
+                frames.push(rule.expression().references())?;
+            }
         }
     }
     Ok(())
@@ -68,10 +73,12 @@ fn add_around<'a>(
     question: Question<'a>,
     places: &mut BTreeSet<u32>,
 ) -> Result<(), AllocError>
-    requires { IsNodeOf (bytes_of policy) (question_node question) }
-    ensures { OnOk result ((place : ℕ) → has_place places.new place ≡ (has_place places.old place
+    requires node { IsNodeOf (bytes_of policy) (question_node question) }
+    requires closed { IsClosed (nodes_of (bytes_of policy)) (has_place places.old) }
+    ensures places { OnOk result ((place : ℕ) → has_place places.new place ≡ (has_place places.old place
         || list_any (names_rule (nodes_of (bytes_of policy.entry)) place)
         (flat_map (condition_references (nodes_of (bytes_of policy.entry))) (guards (question_node question.entry))))) }
+    ensures closed { OnOk result (IsClosed (nodes_of (bytes_of policy.entry)) (has_place places.new)) }
 {
     let forms = policy.forms();
     let mut guards = forms.guards_at(question.place());
@@ -88,10 +95,12 @@ fn add_inside<'a>(
     question: Question<'a>,
     places: &mut BTreeSet<u32>,
 ) -> Result<(), AllocError>
-    requires { IsNodeOf (bytes_of policy) (question_node question) }
-    ensures { OnOk result ((place : ℕ) → has_place places.new place ≡ (has_place places.old place
+    requires node { IsNodeOf (bytes_of policy) (question_node question) }
+    requires closed { IsClosed (nodes_of (bytes_of policy)) (has_place places.old) }
+    ensures places { OnOk result ((place : ℕ) → has_place places.new place ≡ (has_place places.old place
         || list_any (names_rule (nodes_of (bytes_of policy.entry)) place)
         (flat_map (condition_references (nodes_of (bytes_of policy.entry))) (inner_guards (question_node question.entry))))) }
+    ensures closed { OnOk result (IsClosed (nodes_of (bytes_of policy.entry)) (has_place places.new)) }
 {
     let forms = policy.forms();
     let mut guards = forms.guards_in(question.statement());
@@ -108,10 +117,12 @@ fn add_checked<'a>(
     question: Question<'a>,
     places: &mut BTreeSet<u32>,
 ) -> Result<(), AllocError>
-    requires { IsNodeOf (bytes_of policy) (question_node question) }
-    ensures { OnOk result ((place : ℕ) → has_place places.new place ≡ (has_place places.old place
+    requires node { IsNodeOf (bytes_of policy) (question_node question) }
+    requires closed { IsClosed (nodes_of (bytes_of policy)) (has_place places.old) }
+    ensures places { OnOk result ((place : ℕ) → has_place places.new place ≡ (has_place places.old place
         || list_any (names_rule (nodes_of (bytes_of policy.entry)) place)
         (flat_map (condition_references (nodes_of (bytes_of policy.entry))) (checks (question_node question.entry))))) }
+    ensures closed { OnOk result (IsClosed (nodes_of (bytes_of policy.entry)) (has_place places.new)) }
 {
     let forms = policy.forms();
     let mut checks = forms.conditions_in(question.statement());

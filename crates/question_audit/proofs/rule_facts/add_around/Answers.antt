@@ -16,15 +16,18 @@ loop-guard-init c =
     let policy = c.args.policy in
     let n = question_node c.args.question in
     let ns = nodes_of (bytes_of policy) in
-    let found = guards_found policy n _ c.place.result _ c.requires (of_statement n c.args.question.statement.statement) (sym c.place.ensures) c.forms-forms.ensures c.guards_at-guards.ensures.guards in
-    all_to_name ns (has_place c.args.places.now) _ _ (ap (flat_map (condition_references ns)) found)
+    let found = guards_found policy n _ c.place.result _ c.requires.node (of_statement n c.args.question.statement.statement) (sym c.place.ensures) c.forms-forms.ensures c.guards_at-guards.ensures.guards in
+    record { named = all_to_name ns (has_place c.args.places.now) _ _ (ap (flat_map (condition_references ns)) found); closed = c.requires.closed }
 
 pub loop-guard-preserved : goal.loop-guard-preserved
 loop-guard-preserved c =
     let ns = nodes_of (bytes_of c.args.policy) in
-    condition_added ns _ _ _ _ _ _ (guard_node c.in-Some.guard) c.in-Some.ensures.steps (rw (c.forms-forms.ensures, c.condition.ensures) at c.in_ok-add_named.ensures) c.loop-guard.invariant
+    record {
+      named = condition_added ns _ _ _ _ _ _ (guard_node c.in-Some.guard) c.in-Some.ensures.steps (rw (c.forms-forms.ensures, c.condition.ensures) at c.in_ok-add_named.ensures.places) c.loop-guard.invariant.named;
+      closed = rw c.forms-forms.ensures at c.in_ok-add_named.ensures.closed;
+    }
 
-pub returns : goal.returns
-returns c =
+pub returns-clause-places : goal.returns-clause-places
+returns-clause-places c =
     let ns = nodes_of (bytes_of c.args.policy) in
-    all_named ns _ _ _ _ (ap (flat_map (condition_references ns)) c.in_default.ensures.steps.0) c.loop-guard.invariant
+    all_named ns _ _ _ _ (ap (flat_map (condition_references ns)) c.in_default.ensures.steps.0) c.loop-guard.invariant.named

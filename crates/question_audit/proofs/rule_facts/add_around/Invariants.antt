@@ -6,6 +6,7 @@ use Rattle.ifr_scopes.specs.code.Lists.{guards_left}
 use Rattle.hii_questions.specs.code.Views.{question_node}
 use Rattle.guard_policy.specs.code.Views.{bytes_of}
 use Rattle.question_audit.specs.RuleFacts.{condition_references}
+use Rattle.question_audit.specs.code.NamedRules.{IsClosed}
 use Rattle.question_audit.specs.code.Places.{has_place}
 use Rattle.question_audit.proofs.NamingLemmas.{IsNamedSoFar}
 use Rattle.question_audit.proofs.rule_facts.add_around.Given as goal
@@ -14,8 +15,10 @@ use Rattle.question_audit.proofs.rule_facts.add_around.Given as goal
 abbrev pub invariant-loop-guard : goal.invariant-loop-guard
 invariant-loop-guard l =
     let ns = nodes_of (bytes_of l.policy) in
-    IsNamedSoFar ns (has_place l.fn.places) (has_place l.places) (flat_map (condition_references ns) (guards (question_node l.question)))
-    (flat_map (condition_references ns) (guards_left l.guards))
+    record {
+      named : IsNamedSoFar ns (has_place l.fn.places) (has_place l.places) (flat_map (condition_references ns) (guards (question_node l.question))) (flat_map (condition_references ns) (guards_left l.guards));
+      closed : IsClosed ns (has_place l.places);
+    }
 
 abbrev pub decreases-loop-guard : goal.decreases-loop-guard
 decreases-loop-guard l = length (guards_left l.guards)

@@ -13,14 +13,17 @@ pub loop-check-init : goal.loop-check-init
 loop-check-init c =
     let ns = nodes_of (bytes_of c.args.policy) in
     let all = c.conditions_in-checks.ensures ∙ ap checks c.statement.ensures in
-    all_to_name ns (has_place c.args.places.now) _ _ (ap (flat_map (condition_references ns)) all)
+    record { named = all_to_name ns (has_place c.args.places.now) _ _ (ap (flat_map (condition_references ns)) all); closed = c.requires.closed }
 
 pub loop-check-preserved : goal.loop-check-preserved
 loop-check-preserved c =
     let ns = nodes_of (bytes_of c.args.policy) in
-    condition_added ns _ _ _ _ _ _ (condition_node c.in-Some.check) c.in-Some.ensures.steps (rw (c.forms-forms.ensures, c.condition.ensures) at c.in_ok-add_named.ensures) c.loop-check.invariant
+    record {
+      named = condition_added ns _ _ _ _ _ _ (condition_node c.in-Some.check) c.in-Some.ensures.steps (rw (c.forms-forms.ensures, c.condition.ensures) at c.in_ok-add_named.ensures.places) c.loop-check.invariant.named;
+      closed = rw c.forms-forms.ensures at c.in_ok-add_named.ensures.closed;
+    }
 
-pub returns : goal.returns
-returns c =
+pub returns-clause-places : goal.returns-clause-places
+returns-clause-places c =
     let ns = nodes_of (bytes_of c.args.policy) in
-    all_named ns _ _ _ _ (ap (flat_map (condition_references ns)) c.in_default.ensures.steps.0) c.loop-check.invariant
+    all_named ns _ _ _ _ (ap (flat_map (condition_references ns)) c.in_default.ensures.steps.0) c.loop-check.invariant.named

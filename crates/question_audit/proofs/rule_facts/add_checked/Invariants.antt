@@ -6,6 +6,7 @@ use Rattle.hii_questions.specs.code.Views.{question_node}
 use Rattle.guard_policy.specs.code.Views.{bytes_of}
 use Rattle.question_audit.specs.ConditionFacts.{checks}
 use Rattle.question_audit.specs.RuleFacts.{condition_references}
+use Rattle.question_audit.specs.code.NamedRules.{IsClosed}
 use Rattle.question_audit.specs.code.Places.{has_place}
 use Rattle.question_audit.proofs.NamingLemmas.{IsNamedSoFar}
 use Rattle.question_audit.proofs.rule_facts.add_checked.Given as goal
@@ -14,8 +15,10 @@ use Rattle.question_audit.proofs.rule_facts.add_checked.Given as goal
 abbrev pub invariant-loop-check : goal.invariant-loop-check
 invariant-loop-check l =
     let ns = nodes_of (bytes_of l.policy) in
-    IsNamedSoFar ns (has_place l.fn.places) (has_place l.places) (flat_map (condition_references ns) (checks (question_node l.question)))
-    (flat_map (condition_references ns) (conditions_in_left l.checks))
+    record {
+      named : IsNamedSoFar ns (has_place l.fn.places) (has_place l.places) (flat_map (condition_references ns) (checks (question_node l.question))) (flat_map (condition_references ns) (conditions_in_left l.checks));
+      closed : IsClosed ns (has_place l.places);
+    }
 
 abbrev pub decreases-loop-check : goal.decreases-loop-check
 decreases-loop-check l = length (conditions_in_left l.checks)
