@@ -88,7 +88,7 @@ stand_before bytes r n k checked e lt =
 abbrev Closes : List Node → (ℕ → Bool) → RuleReference → Type 0
 Closes ns has r =
     ((place : ℕ) → names_rule ns place r ≡ true → has place ≡ true)
-        → (place : ℕ) → list_any (names_rule ns place) (rule_references (rules_among ns) r.id r.place) ≡ true → has place ≡ true
+    → (place : ℕ) → list_any (names_rule ns place) (rule_references (rules_among ns) r.id r.place) ≡ true → has place ≡ true
 
 all_close : (ns : List Node) (has : ℕ → Bool) (refs : List RuleReference) → AllByRecursion (Closes ns has) refs
     → ((place : ℕ) → list_any (names_rule ns place) refs ≡ true → has place ≡ true)
@@ -101,9 +101,9 @@ all_close ns has (r ∷ refs) each direct place e =
     elim (or_cases (test r) (list_any test (behind ++ rest)) e) [
       | inl here ↦ direct place (or_left (test r) (list_any test refs) here)
       | inr later ↦ elim (or_cases (list_any test behind) (list_any test rest) (sym (list_any-append test behind rest) ∙ later)) [
-          | inl inner ↦ each.0 (λ p is. direct p (or_left (names_rule ns p r) (list_any (names_rule ns p) refs) is)) place inner
-          | inr outer ↦ all_close ns has refs each.1 (λ p is. direct p (or_right (names_rule ns p r) (list_any (names_rule ns p) refs) is)) place outer
-        ]
+        | inl inner ↦ each.0 (λ p is. direct p (or_left (names_rule ns p r) (list_any (names_rule ns p) refs) is)) place inner
+        | inr outer ↦ all_close ns has refs each.1 (λ p is. direct p (or_right (names_rule ns p r) (list_any (names_rule ns p) refs) is)) place outer
+      ]
     ]
 
 before_close : (ns : List Node) (has : ℕ → Bool) (k : ℕ) (refs : List RuleReference) → StandBefore k refs → ((r : RuleReference) → r.place < k → Closes ns has r) → AllByRecursion (Closes ns has) refs
@@ -162,7 +162,7 @@ pub record IsDone (ns : List Node) (had has : ℕ → Bool) (all : List RuleRefe
   pub places : (place : ℕ) → has place ≡ had place || list_any (names_rule ns place) all
   pub closed : IsClosed ns has
 
-same_test : (a b : Bool) → (a ≡ true → b ≡ true) → (b ≡ true → a ≡ true) → a ≡ b
+pub same_test : (a b : Bool) → (a ≡ true → b ≡ true) → (b ≡ true → a ≡ true) → a ≡ b
 same_test true b f g = sym (f refl)
 same_test false true f g = g refl
 same_test false false f g = refl
@@ -200,9 +200,9 @@ still_named ns has new r rest left these t named place is =
     elim (or_cases (has place) (test r || list_any test rest) (named place is)) [
       | inl there ↦ or_left (new place) (list_any test left) (t.kept place there)
       | inr later ↦ elim (or_cases (test r) (list_any test rest) later) [
-          | inl here ↦ or_left (new place) (list_any test left) (t.named place here)
-          | inr behind ↦ or_right (new place) (list_any test left) (t.behind place behind)
-        ]
+        | inl here ↦ or_left (new place) (list_any test left) (t.named place here)
+        | inr behind ↦ or_right (new place) (list_any test left) (t.behind place behind)
+      ]
     ]
 
 pub turned : (ns : List Node) (had has new : ℕ → Bool) (direct all rest more reached left : List RuleReference) (r : RuleReference) → IsTurn ns has new r rest left
@@ -213,9 +213,9 @@ turned ns had has new direct all rest more reached left r t w = record {
       let tail = list_any test (more ++ reached) in
       w.only place (elim (or_cases (new place) (list_any test reached) is) [
         | inl there ↦ elim (t.only place there) [
-            | inl before ↦ or_left (has place) (test r || tail) before
-            | inr here ↦ or_right (has place) (test r || tail) (or_left (test r) tail here)
-          ]
+          | inl before ↦ or_left (has place) (test r || tail) before
+          | inr here ↦ or_right (has place) (test r || tail) (or_left (test r) tail here)
+        ]
         | inr later ↦ or_right (has place) (test r || tail) (or_right (test r) tail (list_any-append test more reached ∙ or_right (list_any test more) (list_any test reached) later))
       ]);
   kept = λ place is. t.kept place (w.kept place is);

@@ -26,5 +26,6 @@ pub mod ReasonLemmas
 pub mod GuardLemmas
 pub mod NamingLemmas
 pub mod ClosureLemmas
+pub mod SupportLemmas
 pub mod OwnLemmas
 pub mod OptionLemmas

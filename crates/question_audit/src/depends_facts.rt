@@ -1,23 +1,27 @@
 //! On which questions it depends whether a question may be changed.
 
-ghost use Rattle.std.specs.Prelude.{◌≡◌, ◌||◌, ℕ, IfOk, OnOk, OnErr, option_map};
+ghost use Rattle.std.specs.Prelude.{◌≡◌, ◌||◌, ℕ, [], IfOk, OnOk, OnErr, option_map, option_to_list};
+ghost use Rattle.std.specs.List.{list_any};
 ghost use Rattle.hii_bytes.specs.Watching.{Puts};
 ghost use Rattle.ifr_opcodes.specs.Rows.{is_among};
+ghost use Rattle.ifr_expr.specs.code.Expressions.{tree_of};
 ghost use Rattle.ifr_nodes.specs.Nodes.{nodes_of};
 ghost use Rattle.ifr_nodes.specs.code.Checked.{IsNodeOf};
-ghost use Rattle.ifr_scopes.specs.code.Lists.{guard_node, statement_node};
+ghost use Rattle.ifr_scopes.specs.code.Frames.{ids_by};
+ghost use Rattle.ifr_scopes.specs.code.Lists.{statement_node};
 ghost use Rattle.hii_questions.specs.Fields.{asked, question_with};
 ghost use Rattle.hii_questions.specs.code.Ranges.{range_in};
 ghost use Rattle.hii_questions.specs.code.Views.{question_node, question_view};
-ghost use Rattle.guard_policy.specs.Conditions.{condition_ids};
 ghost use Rattle.guard_policy.specs.code.Views.{bytes_of};
 ghost use Rattle.question_audit.specs.code.Ids.{AreIds, has_id};
+ghost use Rattle.question_audit.specs.code.NamedRules.{AreRulesAt, has_id_at, own_ids};
 ghost use Rattle.question_audit.specs.code.Pages.{audited};
 ghost use Rattle.question_audit.specs.Dependences.{answer_text, dependence_text, depends_fact, depends_facts, depends_word, field_behind, support_ids};
 
 use crate::facts::{put_column, put_id, put_verdict_text};
 use crate::fields::put_field_text;
 use crate::ids::add_id;
+use crate::rule_facts::add_named;
 use crate::script_values::put_script_value;
 use crate::shown_values::put_told_value;
 use crate::store_names::StoreNames;
@@ -27,25 +31,60 @@ use form_page::Page;
 use guard_policy::{Conditions, Policy};
 use hii_bytes::Watched;
 use hii_questions::{FieldRange, Question, read_value};
-use ifr_expr::Value;
-use ifr_scopes::{Forms, Guard, Statement};
+use ifr_expr::{Expr, Name, Value};
+use ifr_nodes::{expression_of, node_at};
+use ifr_scopes::{Forms, Statement};
 use std::alloc::{AllocError, Global};
 use std::collections::BTreeSet;
 use std::io::Write;
 
-// Adds the ids of the questions on whose answers the condition of a guard depends.
-fn add_named<'a>(
-    forms: &Forms<'a>,
-    guard: Guard<'a>,
-    ids: &mut BTreeSet<u16>,
-) -> Result<(), AllocError>
+// The id of the question that a name names by itself, where it stands in the scope of the question of an id, or of 0 for none.
+#[tactic(auto, unfolding(ifr_expr::specs::Dependence::rule_ids))]
+fn id_of(name: Name, this: u16) -> Option<u16>
+    ensures { option_to_list result ≡ ids_by [] this name }
+{
+    match name {
+        Name::Question(id) => Some(id),
+        Name::This => {
+            if this == 0 {
+                return None;
+            }
+            Some(this)
+        }
+        Name::Rule(_) => None,
+    }
+}
+
+// Adds the ids of the questions that an expression names by itself.
+fn add_own(expression: Expr<'_>, this: u16, ids: &mut BTreeSet<u16>) -> Result<(), AllocError>
     ensures named { OnOk result ((id : ℕ) → has_id ids.new id
-        ≡ (has_id ids.old id || is_among id (condition_ids (nodes_of forms.now) (guard_node guard.entry)))) }
+        ≡ (has_id ids.old id || is_among id (own_ids this (tree_of expression.entry)))) }
     ensures are { AreIds ids.old → OnOk result (AreIds ids.new) }
 {
-    let mut named = forms.dependence(guard.condition(), guard.this());
-    while let Some(id) = named.next() {
-        add_id(ids, id)?;
+    let mut names = expression.names();
+    while let Some(name) = names.next() {
+        if let Some(id) = id_of(name, this) {
+            add_id(ids, id)?;
+        }
+    }
+    Ok(())
+}
+
+// Adds those that the rules at these places name by themselves.
+fn add_of_rules(
+    forms: &Forms<'_>,
+    places: &BTreeSet<u32>,
+    ids: &mut BTreeSet<u16>,
+) -> Result<(), AllocError>
+    requires { AreRulesAt forms.now places.now.keys }
+    ensures named { OnOk result ((id : ℕ) → has_id ids.new id
+        ≡ (has_id ids.old id || list_any (has_id_at forms.now id) places.now.keys)) }
+    ensures are { AreIds ids.old → OnOk result (AreIds ids.new) }
+{
+    let mut left = places.iter();
+    while let Some(place) = left.next() {
+        let rule = node_at(forms.bytes(), *place);
+        add_own(expression_of(rule), 0, ids)?;
     }
     Ok(())
 }
@@ -63,13 +102,16 @@ pub fn support_of<'a>(
         ≡ support_ids when (nodes_of (bytes_of policy.entry)) (statement_node statement.entry)) }
 {
     let mut ids = BTreeSet::new(alloc);
+    let mut places = BTreeSet::new(alloc);
     let forms = policy.forms();
     let mut guards = forms.guards_at(statement.place());
     while let Some(guard) = guards.next() {
         if when.counts(guard) {
-            add_named(forms, guard, &mut ids)?;
+            add_own(guard.condition(), guard.this(), &mut ids)?;
+            add_named(alloc, forms, guard.condition(), &mut places)?;
         }
     }
+    add_of_rules(forms, &places, &mut ids)?;
     Ok(ids)
 }
 
