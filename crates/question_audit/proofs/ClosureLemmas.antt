@@ -1,11 +1,10 @@
 -- A set of places that holds with each rule those that it names holds all that are named in turn.
 use Rattle.std.proofs.Common.{◌≡◌, ℕ, zero, suc, ◌<◌, ◌≤◌, Bool, true, false, Option, Some, None, List, [], ◌∷◌, ◌++◌, refl, sym, ap, subst, ◌∙◌, ◌⊎◌, arith, inl, inr}
 use Rattle.std.specs.Prelude.{Contains, ◌==◌, ◌||◌}
-use Rattle.std.specs.List.{AllByRecursion, find, flat_map, list_any}
+use Rattle.std.specs.List.{AllByRecursion, flat_map, list_any}
 use Rattle.std.proofs.lemmas.Bool.{cases_Bool, cond-true, cond-false, eqb-true, eq-eqb, false≢true, or_cases, or_left, or_right}
 use Rattle.std.proofs.lemmas.List.Folds.{list_any-append}
 use Rattle.ifr_opcodes.specs.declared.codes.TheConstants.{RULE_REF}
-use Rattle.ifr_opcodes.specs.Fields.{rule_ref_rule}
 use Rattle.ifr_opcodes.specs.Forest.{Mark, Node}
 use Rattle.ifr_opcodes.specs.Opcode.{number}
 use Rattle.ifr_expr.specs.Meaning.{Rule, names}
@@ -68,7 +67,7 @@ its_tree (q ∷ earlier) id place r o e = elim (cases_Bool (names id place q)) [
 abbrev pub StandBefore : ℕ → List RuleReference → Type 0
 StandBefore end refs = AllByRecursion (λ (r : RuleReference). r.place < end) refs
 
-references_before : (low high : ℕ) (ops : List Mark) → low ≤ high → Below low ops → StandBefore high (references_among ops)
+pub references_before : (low high : ℕ) (ops : List Mark) → low ≤ high → Below low ops → StandBefore high (references_among ops)
 references_before low high [] le h = tt
 references_before low high (op ∷ ops) le h = elim (cases_Bool (number op.op == RULE_REF)) [
   | inl is ↦ rw is (omega (arith, le, h.0), references_before low high ops le h.1)

@@ -27,5 +27,6 @@ pub mod GuardLemmas
 pub mod NamingLemmas
 pub mod ClosureLemmas
 pub mod SupportLemmas
+pub mod LeadingLemmas
 pub mod OwnLemmas
 pub mod OptionLemmas

@@ -1,7 +1,7 @@
 -- Which rules are named, reference by reference.
 use Rattle.std.proofs.Common.{◌≡◌, ℕ, ◌<◌, Bool, true, false, eqb, Option, Some, None, List, [], ◌∷◌, ◌++◌, append_assoc, reverse, refl, sym, ap, ◌∙◌, inl, inr}
-use Rattle.std.specs.Prelude.{◌==◌, ◌||◌}
-use Rattle.std.specs.List.{find, flat_map, list_any}
+use Rattle.std.specs.Prelude.{◌||◌}
+use Rattle.std.specs.List.{flat_map, list_any}
 use Rattle.std.proofs.lemmas.Bool.{cases_Bool, cond-true, cond-false}
 use Rattle.std.proofs.lemmas.Grind.{flat_map-append}
 use Rattle.std.proofs.lemmas.List.{reverse-append}
@@ -24,7 +24,7 @@ use Rattle.ifr_nodes.specs.Rules.{as_rule, rule_nodes, rules_among}
 use Rattle.ifr_scopes.proofs.RuleLookupLemmas.{named_none, named_some}
 use Rattle.ifr_scopes.proofs.RulesOrderedLemmas.{are_ordered}
 use Rattle.question_audit.specs.code.NamedRules.{named_by}
-use Rattle.question_audit.specs.RuleFacts.{condition_references, names_rule, references_over, rule_references, stands_at}
+use Rattle.question_audit.specs.RuleFacts.{condition_references, names_rule, references_over, rule_references}
 
 -- ---- what a reference names in turn is what the rule names that it names
 

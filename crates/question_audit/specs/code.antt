@@ -14,6 +14,7 @@ pub mod Beginnings
 pub mod Naming
 pub mod Places
 pub mod NamedRules
+pub mod Leading
 pub mod Ids
 pub mod ReasonParts
 pub mod ReasonsLeft

@@ -1,8 +1,10 @@
 //! Which questions depend on another one where it is asked whether they may be changed.
 
 ghost use Rattle.std.specs.Prelude.{◌≡◌, ℕ, true, is_some, IfOk, OnOk, OnErr, length};
-ghost use Rattle.std.specs.List.{flat_map};
+ghost use Rattle.std.specs.List.{flat_map, list_any};
 ghost use Rattle.hii_bytes.specs.Watching.{Puts};
+ghost use Rattle.ifr_expr.specs.code.Expressions.{tree_of};
+ghost use Rattle.ifr_expr.specs.code.Names.{names_in};
 ghost use Rattle.ifr_nodes.specs.Guards.{guards_among};
 ghost use Rattle.ifr_nodes.specs.Nodes.{nodes_of};
 ghost use Rattle.ifr_nodes.specs.code.Checked.{IsNodeOf};
@@ -11,31 +13,74 @@ ghost use Rattle.hii_questions.specs.code.Views.{question_node, question_view};
 ghost use Rattle.guard_policy.specs.code.Views.{bytes_of};
 ghost use Rattle.question_audit.specs.code.Pages.{audited};
 ghost use Rattle.question_audit.specs.Dependences.{all_decides_facts, decided_by, decides_fact, is_decided_by, when_text};
-ghost use Rattle.question_audit.specs.code.Naming.{counts, names, naming};
+ghost use Rattle.question_audit.specs.code.Leading.{AreLeading, leads};
+ghost use Rattle.question_audit.specs.code.Naming.{counts, naming};
+ghost use Rattle.question_audit.specs.code.Places.{has_place};
 
 use crate::facts::put_column;
 use crate::guard_table::flag_of;
+use crate::places::{add_place, has_place};
 use crate::when::When;
 use audit_text::put_safe_shown;
 use form_page::Page;
 use guard_policy::{Conditions, Policy};
 use hii_bytes::Watched;
 use hii_questions::Question;
+use ifr_expr::{Expr, Name};
 use ifr_scopes::{Forms, Guard};
 use std::alloc::{AllocError, Global};
+use std::collections::BTreeSet;
 use std::io::Write;
 
-// Whether the condition of a guard depends on the answer to the question of an id.
-fn names<'a>(forms: &Forms<'a>, guard: Guard<'a>, id: u16) -> bool
-    ensures { result ≡ names (nodes_of forms.now) id (guard_node guard.entry) }
+// Whether a name is that of the question of an id, or of a rule that leads to it, where these are the places of the rules that do. It
+// stands in the scope of the question of another id, or of 0 for none.
+fn is_leading(forms: &Forms<'_>, rules: &BTreeSet<u32>, name: Name, this: u16, id: u16) -> bool
+    ensures { result ≡ leads (nodes_of forms.now) (has_place rules.now) this id name }
 {
-    let mut ids = forms.dependence(guard.condition(), guard.this());
-    while let Some(named) = ids.next() {
-        if named == id {
+    match name {
+        Name::Question(other) => other == id,
+        Name::This => this != 0 && this == id,
+        Name::Rule(reference) => match forms.rule_named(reference.id, reference.place) {
+            Some(rule) => has_place(rules, rule.place()),
+            None => false,
+        },
+    }
+}
+
+// Whether an expression names the question of an id, or a rule that leads to it.
+fn leads<'a>(
+    forms: &Forms<'a>,
+    rules: &BTreeSet<u32>,
+    expression: Expr<'a>,
+    this: u16,
+    id: u16,
+) -> bool
+    ensures { result ≡ list_any (leads (nodes_of forms.now) (has_place rules.now) this id)
+        (names_in (tree_of expression.entry)) }
+{
+    let mut names = expression.names();
+    while let Some(name) = names.next() {
+        if is_leading(forms, rules, name, this, id) {
             return true;
         }
     }
     false
+}
+
+// The places of the rules whose values depend on the answer to the question of an id. A rule names only rules that end before it does.
+fn leading_rules(alloc: Global, forms: &Forms<'_>, id: u16) -> Result<BTreeSet<u32>, AllocError>
+    ensures { IfOk result (λ places. AreLeading (nodes_of forms.now) id (has_place places)) }
+{
+    // The package is accepted.
+    forms.bytes();
+    let mut places = BTreeSet::new(alloc);
+    let mut rules = forms.rules();
+    while let Some(rule) = rules.next() {
+        if leads(forms, &places, rule.expression(), 0, id) {
+            add_place(&mut places, rule.place())?;
+        }
+    }
+    Ok(places)
 }
 
 /// Of each guard of a package, by place, whether its condition depends on the answer to the question of an id.
@@ -43,9 +88,10 @@ pub fn guards_naming(alloc: Global, forms: &Forms<'_>, id: u16) -> Result<Vec<bo
     ensures { IfOk result (λ flags. flags.items ≡ naming (nodes_of forms.now) id) }
 {
     let mut flags = Vec::with_capacity(alloc, forms.guard_count())?;
+    let rules = leading_rules(alloc, forms, id)?;
     let mut guards = forms.guards();
     while let Some(guard) = guards.next() {
-        flags.push(names(forms, guard, id))?;
+        flags.push(leads(forms, &rules, guard.condition(), guard.this(), id))?;
     }
     Ok(flags)
 }
