@@ -10,6 +10,7 @@ ghost use Rattle.ifr_nodes.specs.code.Checked.{IsNodeOf};
 ghost use Rattle.ifr_scopes.specs.code.Lists.{guard_node, statement_node};
 ghost use Rattle.ifr_scopes.specs.code.Parts.{condition_node, condition_op};
 ghost use Rattle.hii_questions.specs.code.Views.{question_node};
+ghost use Rattle.guard_policy.specs.code.RuleValues.{AreRuleValues};
 ghost use Rattle.guard_policy.specs.code.Views.{bytes_of};
 ghost use Rattle.question_audit.specs.code.Pages.{audited};
 ghost use Rattle.question_audit.specs.ConditionFacts.{check_fact, check_facts, condition_fact, guard_fact, guard_facts, guard_state, state_text, value_at};
@@ -22,7 +23,7 @@ use form_page::Page;
 use guard_policy::Conditions;
 use hii_bytes::Watched;
 use hii_questions::Question;
-use ifr_expr::Value;
+use ifr_expr::{RuleValues, Value};
 use ifr_opcodes::DISABLE_IF;
 use ifr_scopes::{AnyCondition, ConditionOp, ConditionView, Guard, Statement};
 use std::alloc::{AllocError, Global};
@@ -56,6 +57,25 @@ pub fn state_of<'a, C: Conditions>(
         condition
             .condition()
             .value(&answers, page.policy().forms(), condition.this()),
+    )
+}
+
+/// The same, by values of rules over these stores. Those that it asks for are kept there.
+pub fn state_by<'a, C: Conditions>(
+    page: Page<'a, '_, C>,
+    condition: AnyCondition<'a>,
+    rules: &mut RuleValues,
+) -> &'static [u8]
+    requires kept { AreRuleValues (bytes_of page.policy) page.stores.now rules.old }
+    ensures state { result.now
+        ≡ state_text (value_at (audited page.entry) (any_condition_node condition.entry)) }
+    ensures kept { AreRuleValues (bytes_of page.entry.policy) page.entry.stores.now rules.new }
+{
+    let answers = page.questions().over(page.stores());
+    state_word(
+        condition
+            .condition()
+            .value_by(&answers, page.policy().forms(), condition.this(), rules),
     )
 }
 
@@ -115,15 +135,34 @@ pub fn guard_state<'a, C: Conditions>(page: Page<'a, '_, C>, guard: Guard<'a>) -
     }
 }
 
-// Writes a guard. Where an allocation fails nothing is written.
+/// The same, by values of rules over the stores of the page. Those that it asks for are kept there.
+pub fn guard_state_by<'a, C: Conditions>(
+    page: Page<'a, '_, C>,
+    guard: Guard<'a>,
+    rules: &mut RuleValues,
+) -> &'static [u8]
+    requires kept { AreRuleValues (bytes_of page.policy) page.stores.now rules.old }
+    ensures state { result.now ≡ guard_state (audited page.entry) (guard_node guard.entry) }
+    ensures kept { AreRuleValues (bytes_of page.entry.policy) page.entry.stores.now rules.new }
+{
+    if guard.code() == DISABLE_IF {
+        return guard_state(page, guard);
+    }
+    state_by(page, AnyCondition::Guard(guard), rules)
+}
+
+// Writes a guard, by values of rules over the stores of the page. Where an allocation fails nothing is written.
 fn put_guard<'a, C: Conditions, W: Write>(
     alloc: Global,
     page: Page<'a, '_, C>,
     package_place: u64,
     guard: Guard<'a>,
+    rules: &mut RuleValues,
     out: &mut Watched<W>,
 ) -> Result<(), AllocError>
-    requires { package_place + (guard_node guard).place < 2 ^ 64 }
+    requires in_list { package_place + (guard_node guard).place < 2 ^ 64 }
+    requires kept { AreRuleValues (bytes_of page.policy) page.stores.now rules.old }
+    ensures kept { AreRuleValues (bytes_of page.entry.policy) page.entry.stores.now rules.new }
     ensures told { OnOk result (Puts W.contents out.old out.new
         (guard_fact (audited page.entry) package_place (guard_node guard.entry))) }
     ensures nothing { OnErr result (out.new ≡ out.old) }
@@ -132,7 +171,7 @@ fn put_guard<'a, C: Conditions, W: Write>(
         word: b"guard",
         code: guard.code(),
         package_place,
-        state: guard_state(page, guard),
+        state: guard_state_by(page, guard, rules),
     };
     put_condition(alloc, heading, AnyCondition::Guard(guard), out)
 }
@@ -152,9 +191,11 @@ pub(crate) fn put_guards<'a, C: Conditions, W: Write>(
     ensures begun { OnErr result (Begins (pen_of W.contents out.old) (pen_of W.contents out.new)
         (guard_facts (audited page.entry) package_place (statement_node statement.entry))) }
 {
-    let mut guards = page.policy().forms().guards_at(statement.place());
+    let forms = page.policy().forms();
+    let mut rules = RuleValues::new(alloc, forms.rule_count())?;
+    let mut guards = forms.guards_at(statement.place());
     while let Some(guard) = guards.step() {
-        put_guard(alloc, page, package_place, guard, out)?;
+        put_guard(alloc, page, package_place, guard, &mut rules, out)?;
     }
     Ok(())
 }
@@ -170,15 +211,18 @@ pub fn code_of(op: ConditionOp<'_>) -> u8
     }
 }
 
-// Writes a check. Where an allocation fails nothing is written.
+// Writes a check, by values of rules over the stores of the page. Where an allocation fails nothing is written.
 fn put_check<'a, C: Conditions, W: Write>(
     alloc: Global,
     page: Page<'a, '_, C>,
     package_place: u64,
     check: ConditionView<'a>,
+    rules: &mut RuleValues,
     out: &mut Watched<W>,
 ) -> Result<(), AllocError>
-    requires { package_place + (condition_node check).place < 2 ^ 64 }
+    requires in_list { package_place + (condition_node check).place < 2 ^ 64 }
+    requires kept { AreRuleValues (bytes_of page.policy) page.stores.now rules.old }
+    ensures kept { AreRuleValues (bytes_of page.entry.policy) page.entry.stores.now rules.new }
     ensures told { OnOk result (Puts W.contents out.old out.new
         (check_fact (audited page.entry) package_place (condition_node check.entry))) }
     ensures nothing { OnErr result (out.new ≡ out.old) }
@@ -188,7 +232,7 @@ fn put_check<'a, C: Conditions, W: Write>(
         word: b"check",
         code: code_of(check.op()),
         package_place,
-        state: state_of(page, condition),
+        state: state_by(page, condition, rules),
     };
     put_condition(alloc, heading, condition, out)
 }
@@ -208,9 +252,11 @@ pub(crate) fn put_checks<'a, C: Conditions, W: Write>(
     ensures begun { OnErr result (Begins (pen_of W.contents out.old) (pen_of W.contents out.new)
         (check_facts (audited page.entry) package_place (question_node question.entry))) }
 {
-    let mut checks = page.policy().forms().conditions_in(question.statement());
+    let forms = page.policy().forms();
+    let mut rules = RuleValues::new(alloc, forms.rule_count())?;
+    let mut checks = forms.conditions_in(question.statement());
     while let Some(check) = checks.next() {
-        put_check(alloc, page, package_place, check, out)?;
+        put_check(alloc, page, package_place, check, &mut rules, out)?;
     }
     Ok(())
 }

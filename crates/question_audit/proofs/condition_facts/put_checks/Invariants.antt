@@ -5,6 +5,7 @@ use Rattle.hii_bytes.specs.code.Writing.{Stands}
 use Rattle.ifr_nodes.specs.code.Checked.{AreNodesOf}
 use Rattle.ifr_scopes.specs.code.ConditionsInLeft.{conditions_in_left}
 use Rattle.hii_questions.specs.code.Views.{question_node}
+use Rattle.guard_policy.specs.code.RuleValues.{AreRuleValues}
 use Rattle.guard_policy.specs.code.Views.{bytes_of}
 use Rattle.question_audit.specs.code.Pages.{audited}
 use Rattle.question_audit.specs.ConditionFacts.{check_fact, check_facts}
@@ -18,6 +19,7 @@ invariant-loop-check g l =
       written : Stands (pen_of g.W.Write.contents l.fn.out) (pen_of g.W.Write.contents l.out) (check_facts a l.package_place (question_node l.question))
           (flat_map (check_fact a l.package_place) (conditions_in_left l.checks));
       nodes : AreNodesOf (bytes_of l.page.policy) (conditions_in_left l.checks);
+      kept : AreRuleValues (bytes_of l.page.policy) l.page.stores.now l.rules;
     }
 
 abbrev pub decreases-loop-check : goal.decreases-loop-check

@@ -3,6 +3,7 @@ use Rattle.std.specs.List.{flat_map}
 use Rattle.hii_bytes.specs.Watching.{pen_of}
 use Rattle.hii_bytes.specs.code.Writing.{Stands}
 use Rattle.ifr_scopes.specs.code.Lists.{guards_left, statement_node}
+use Rattle.guard_policy.specs.code.RuleValues.{AreRuleValues}
 use Rattle.guard_policy.specs.code.Views.{bytes_of}
 use Rattle.question_audit.specs.code.Pages.{audited}
 use Rattle.question_audit.specs.ConditionFacts.{guard_fact, guard_facts}
@@ -16,6 +17,7 @@ invariant-loop-guard g l =
       written : Stands (pen_of g.W.Write.contents l.fn.out) (pen_of g.W.Write.contents l.out) (guard_facts a l.package_place (statement_node l.statement))
           (flat_map (guard_fact a l.package_place) (guards_left l.guards));
       own : l.guards.ifr.now ≡ bytes_of l.page.policy;
+      kept : AreRuleValues (bytes_of l.page.policy) l.page.stores.now l.rules;
     }
 
 abbrev pub decreases-loop-guard : goal.decreases-loop-guard
