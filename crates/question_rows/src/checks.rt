@@ -5,6 +5,7 @@ ghost use Rattle.hii_bytes.specs.Watching.{Puts, pen_of};
 ghost use Rattle.ifr_nodes.specs.code.Checked.{IsNodeOf};
 ghost use Rattle.ifr_scopes.specs.code.Parts.{condition_node};
 ghost use Rattle.hii_questions.specs.code.Views.{question_node};
+ghost use Rattle.guard_policy.specs.code.RuleValues.{AreRuleValues};
 ghost use Rattle.guard_policy.specs.code.Views.{bytes_of};
 ghost use Rattle.question_audit.specs.code.Pages.{audited};
 ghost use Rattle.question_audit.specs.ConditionFacts.{condition_words};
@@ -19,8 +20,9 @@ use form_page::Page;
 use guard_policy::Conditions;
 use hii_bytes::Watched;
 use hii_questions::Question;
+use ifr_expr::RuleValues;
 use ifr_scopes::{AnyCondition, ConditionView};
-use question_audit::{code_of, state_of};
+use question_audit::{code_of, state_by};
 use std::alloc::{AllocError, Global};
 use std::io::Write;
 
@@ -53,19 +55,22 @@ fn put_check_start<W: Write>(state: &[u8], out: &mut Watched<W>)
     });
 }
 
-// Writes a check. Where an allocation fails nothing is written.
+// Writes a check, by values of rules over the stores of the page. Where an allocation fails nothing is written.
 fn put_check<'a, C: Conditions, W: Write>(
     alloc: Global,
     page: Page<'a, '_, C>,
     check: ConditionView<'a>,
+    rules: &mut RuleValues,
     out: &mut Watched<W>,
 ) -> Result<(), AllocError>
+    requires { AreRuleValues (bytes_of page.policy) page.stores.now rules.old }
+    ensures kept { OnOk result (AreRuleValues (bytes_of page.entry.policy) page.entry.stores.now rules.new) }
     ensures told { OnOk result (Puts W.contents out.old out.new
         (check_part (audited page.entry) (condition_node check.entry))) }
     ensures nothing { OnErr result (out.new ≡ out.old) }
 {
     let words = words_text(alloc, check.condition())?;
-    let state = state_of(page, AnyCondition::Question(check));
+    let state = state_by(page, AnyCondition::Question(check), rules);
     put_check_start(state, out);
     put_check_words(page, check, state, &words, out);
     out.put(b"</p>");
@@ -85,9 +90,11 @@ pub(crate) fn put_checks<'a, C: Conditions, W: Write>(
     ensures begun { OnErr result (Begins (pen_of W.contents out.old) (pen_of W.contents out.new)
         (checks_part (audited page.entry) (question_node question.entry))) }
 {
-    let mut checks = page.policy().forms().conditions_in(question.statement());
+    let forms = page.policy().forms();
+    let mut rules = RuleValues::new(alloc, forms.rule_count())?;
+    let mut checks = forms.conditions_in(question.statement());
     while let Some(check) = checks.next() {
-        put_check(alloc, page, check, out)?;
+        put_check(alloc, page, check, &mut rules, out)?;
     }
     Ok(())
 }

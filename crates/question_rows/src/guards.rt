@@ -6,6 +6,7 @@ ghost use Rattle.ifr_nodes.specs.Nodes.{nodes_of};
 ghost use Rattle.ifr_nodes.specs.code.Checked.{IsNodeOf};
 ghost use Rattle.ifr_opcodes.specs.Opcode.{number};
 ghost use Rattle.ifr_scopes.specs.code.Lists.{guard_node, statement_node};
+ghost use Rattle.guard_policy.specs.code.RuleValues.{AreRuleValues};
 ghost use Rattle.guard_policy.specs.code.Views.{bytes_of};
 ghost use Rattle.question_audit.specs.code.Pages.{audited};
 ghost use Rattle.question_audit.specs.code.Beginnings.{Begins};
@@ -18,9 +19,10 @@ use form_page::Page;
 use guard_policy::Conditions;
 use hii_bytes::Watched;
 use hii_questions::DenialKind;
+use ifr_expr::RuleValues;
 use ifr_opcodes::{DISABLE_IF, SUPPRESS_IF};
 use ifr_scopes::{Guard, Statement};
-use question_audit::guard_state;
+use question_audit::guard_state_by;
 use std::alloc::{AllocError, Global};
 use std::io::Write;
 
@@ -69,19 +71,22 @@ fn guard_class(code: u8, state: &[u8]) -> &'static [u8]
     }
 }
 
-// Writes a guard. Where an allocation fails nothing is written.
+// Writes a guard, by values of rules over the stores of the page. Where an allocation fails nothing is written.
 fn put_guard<'a, C: Conditions, W: Write>(
     alloc: Global,
     page: Page<'a, '_, C>,
     guard: Guard<'a>,
+    rules: &mut RuleValues,
     out: &mut Watched<W>,
 ) -> Result<(), AllocError>
+    requires { AreRuleValues (bytes_of page.policy) page.stores.now rules.old }
+    ensures kept { OnOk result (AreRuleValues (bytes_of page.entry.policy) page.entry.stores.now rules.new) }
     ensures told { OnOk result (Puts W.contents out.old out.new
         (guard_part (audited page.entry) (guard_node guard.entry))) }
     ensures nothing { OnErr result (out.new ≡ out.old) }
 {
     let words = words_text(alloc, guard.condition())?;
-    let state = guard_state(page, guard);
+    let state = guard_state_by(page, guard, rules);
     let code = guard.code();
     out.put(b"<p class=\"small\">");
     out.put(b"<span class=\"");
@@ -107,9 +112,11 @@ pub(crate) fn put_guards<'a, C: Conditions, W: Write>(
     ensures begun { OnErr result (Begins (pen_of W.contents out.old) (pen_of W.contents out.new)
         (guards_part (audited page.entry) (statement_node statement.entry))) }
 {
-    let mut guards = page.policy().forms().guards_at(statement.place());
+    let forms = page.policy().forms();
+    let mut rules = RuleValues::new(alloc, forms.rule_count())?;
+    let mut guards = forms.guards_at(statement.place());
     while let Some(guard) = guards.step() {
-        put_guard(alloc, page, guard, out)?;
+        put_guard(alloc, page, guard, &mut rules, out)?;
     }
     Ok(())
 }

@@ -11,5 +11,5 @@ returns-clause-told g c =
     let words = rw c.condition.ensures at (c.deref.ensures.value ∙ c.in_ok-words.ensures) in
     let class = c.guard_class.ensures n.op c.code-code.ensures in
     let name : c.opcode_name.result.now ≡ opcode_name (number n.op) = c.opcode_name.ensures ∙ ap opcode_name c.code-code.ensures in
-    rw (class, name, words, c.guard_state-state.ensures) at
+    rw (class, name, words, c.guard_state_by-state.ensures.state) at
     (c.put.ensures ⨾ (c.put-2.ensures ⨾ c.put-3.ensures ⨾ c.put-4.ensures ⨾ c.put-5.ensures ⨾ c.put-6.ensures ⨾ c.put_stated.ensures) ⨾ c.put-7.ensures)
