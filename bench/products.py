@@ -11,7 +11,9 @@ from packages import *
 # What a product is made of (string packages, opcodes, stores), what is run before the lines that are counted, these, and how the answers end. Where one part is gone through
 # for each of the other, `steps` tells how often: what is counted may then grow as they do.
 Product = namedtuple("Product", "texts opcodes held before lines ends steps")
-# What makes a product of its parts, and how many instructions each of its steps takes at most.
+# What makes a product of its parts, and how many instructions each of its steps takes at most; or of an audit, by the command, each byte
+# that is given or told: where rows tell of each guard around them, what is told grows as rows x guards, and what is counted may then grow
+# as it does.
 Made = namedtuple("Made", "make each")
 # What is run by setup, and over what the commands of the second program go.
 PRODUCTS, AUDITED = {}, {}
@@ -312,13 +314,13 @@ def _(part):
 
 # ---- audits: of the question 1, and of all
 
-@product("audit: questions x guards that name a rule", among=AUDITED)
+@product("audit: questions x guards that name a rule", {"report": 105}, AUDITED)
 def _(part):
     boxes = b"".join(checkbox(number, 0) for number in range(1, part(4000) + 1))
     return of_opening(*with_a_rule(part, nested(part(GUARDS), boxes, rule_ref(1))))
 
 
-@product("audit: questions x guards over a wide text", among=AUDITED)
+@product("audit: questions x guards over a wide text", {"questions": 64, "report": 72}, AUDITED)
 def _(part):
     count, width = part(4000), part(WIDE // 2) * 2
     boxes = b"".join(checkbox(number, width) for number in range(1, count + 1))

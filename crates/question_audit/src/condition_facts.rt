@@ -1,9 +1,10 @@
 //! The guards around questions and their checks.
 
-ghost use Rattle.std.specs.Prelude.{◌≡◌, ◌+◌, ◌<◌, ◌^◌, OnOk, OnErr, length};
+ghost use Rattle.std.specs.Prelude.{◌≡◌, ◌+◌, ◌<◌, ◌^◌, IfOk, OnOk, OnErr, length};
 ghost use Rattle.hii_bytes.specs.Watching.{Puts, pen_of};
 ghost use Rattle.ifr_opcodes.specs.Opcode.{number};
 ghost use Rattle.ifr_opcodes.specs.code.Ops.{bytes_of as op_bytes};
+ghost use Rattle.ifr_expr.specs.code.RuleValues.{KeepsNothing, kept_under};
 ghost use Rattle.ifr_expr.specs.code.Views.{value_of};
 ghost use Rattle.ifr_scopes.specs.code.AnyConditions.{any_condition_node};
 ghost use Rattle.ifr_nodes.specs.code.Checked.{IsNodeOf};
@@ -25,9 +26,19 @@ use hii_bytes::Watched;
 use hii_questions::Question;
 use ifr_expr::{RuleValues, Value};
 use ifr_opcodes::DISABLE_IF;
-use ifr_scopes::{AnyCondition, ConditionOp, ConditionView, Guard, Statement};
+use ifr_scopes::{AnyCondition, ConditionOp, ConditionView, Forms, Guard, Statement};
 use std::alloc::{AllocError, Global};
 use std::io::Write;
+
+/// Of how many rules the values are kept while conditions are told: so few that they take little memory beside what a session does.
+const KEPT_RULES: usize = 4096;
+
+/// Room for the values of the first rules of a package, of which none is known.
+pub fn rule_values(alloc: Global, forms: &Forms<'_>) -> Result<RuleValues, AllocError>
+    ensures { IfOk result (λ values. KeepsNothing (kept_under values)) }
+{
+    RuleValues::new(alloc, forms.rule_count().min(KEPT_RULES))
+}
 
 // The word for what a condition is.
 fn state_word(value: Value<'_>) -> &'static [u8]
@@ -192,7 +203,7 @@ pub(crate) fn put_guards<'a, C: Conditions, W: Write>(
         (guard_facts (audited page.entry) package_place (statement_node statement.entry))) }
 {
     let forms = page.policy().forms();
-    let mut rules = RuleValues::new(alloc, forms.rule_count())?;
+    let mut rules = rule_values(alloc, forms)?;
     let mut guards = forms.guards_at(statement.place());
     while let Some(guard) = guards.step() {
         put_guard(alloc, page, package_place, guard, &mut rules, out)?;
@@ -253,7 +264,7 @@ pub(crate) fn put_checks<'a, C: Conditions, W: Write>(
         (check_facts (audited page.entry) package_place (question_node question.entry))) }
 {
     let forms = page.policy().forms();
-    let mut rules = RuleValues::new(alloc, forms.rule_count())?;
+    let mut rules = rule_values(alloc, forms)?;
     let mut checks = forms.conditions_in(question.statement());
     while let Some(check) = checks.next() {
         put_check(alloc, page, package_place, check, &mut rules, out)?;

@@ -40,7 +40,7 @@ mod verdicts;
 mod ways;
 mod when;
 
-pub use condition_facts::{code_of, guard_state, guard_state_by, state_by, state_of};
+pub use condition_facts::{code_of, guard_state, guard_state_by, rule_values, state_by, state_of};
 pub use constant::is_constant;
 pub use decides_facts::{guards_naming, is_decided};
 pub use defaults::{give_back, take_default};

@@ -22,7 +22,7 @@ use hii_bytes::Watched;
 use hii_questions::Question;
 use ifr_expr::RuleValues;
 use ifr_scopes::{AnyCondition, ConditionView};
-use question_audit::{code_of, state_by};
+use question_audit::{code_of, rule_values, state_by};
 use std::alloc::{AllocError, Global};
 use std::io::Write;
 
@@ -91,7 +91,7 @@ pub(crate) fn put_checks<'a, C: Conditions, W: Write>(
         (checks_part (audited page.entry) (question_node question.entry))) }
 {
     let forms = page.policy().forms();
-    let mut rules = RuleValues::new(alloc, forms.rule_count())?;
+    let mut rules = rule_values(alloc, forms)?;
     let mut checks = forms.conditions_in(question.statement());
     while let Some(check) = checks.next() {
         put_check(alloc, page, check, &mut rules, out)?;

@@ -22,7 +22,7 @@ use hii_questions::DenialKind;
 use ifr_expr::RuleValues;
 use ifr_opcodes::{DISABLE_IF, SUPPRESS_IF};
 use ifr_scopes::{Guard, Statement};
-use question_audit::guard_state_by;
+use question_audit::{guard_state_by, rule_values};
 use std::alloc::{AllocError, Global};
 use std::io::Write;
 
@@ -113,7 +113,7 @@ pub(crate) fn put_guards<'a, C: Conditions, W: Write>(
         (guards_part (audited page.entry) (statement_node statement.entry))) }
 {
     let forms = page.policy().forms();
-    let mut rules = RuleValues::new(alloc, forms.rule_count())?;
+    let mut rules = rule_values(alloc, forms)?;
     let mut guards = forms.guards_at(statement.place());
     while let Some(guard) = guards.step() {
         put_guard(alloc, page, guard, &mut rules, out)?;

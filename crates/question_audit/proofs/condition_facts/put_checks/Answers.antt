@@ -30,7 +30,7 @@ loop-check-init g c =
     record {
       written = all_left (check_fact (audited page) c.args.package_place) (pen_of g.W.Write.contents c.args.out.now) (checks n) (conditions_in_left c.conditions_in-checks.result) all;
       nodes = subst (AreNodesOf bytes) (sym all) (inside_are_nodes bytes (λ (m : Node). is_condition_number (number m.op)) n page.policy.accepted.checked.spelled c.requires.node);
-      kept = forgotten (bytes_of page.policy) page.stores.now c.in_ok-rules.rules c.in_ok-rules.ensures.nothing;
+      kept = forgotten (bytes_of page.policy) page.stores.now c.in_ok-rules.rules c.in_ok-rules.ensures;
     }
 
 pub put_check-requires-clause-in_list : goal.put_check-requires-clause-in_list

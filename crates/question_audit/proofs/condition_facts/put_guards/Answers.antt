@@ -23,7 +23,7 @@ loop-guard-init g c =
       written = all_left (guard_fact (audited page) c.args.package_place) (pen_of g.W.Write.contents c.args.out.now) (guards n) (guards_left c.guards_at-guards.result)
           (guards_found page.policy n _ c.place.result _ c.requires.node (of_statement n c.args.statement.statement) (sym c.place.ensures) own c.guards_at-guards.ensures.guards);
       own = c.guards_at-guards.ensures.of_package ∙ own;
-      kept = forgotten (bytes_of page.policy) page.stores.now c.in_ok-rules.rules c.in_ok-rules.ensures.nothing;
+      kept = forgotten (bytes_of page.policy) page.stores.now c.in_ok-rules.rules c.in_ok-rules.ensures;
     }
 
 pub put_guard-requires-clause-in_list : goal.put_guard-requires-clause-in_list

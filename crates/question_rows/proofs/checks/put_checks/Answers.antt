@@ -17,7 +17,7 @@ loop-check-init g c =
     let page = c.args.page in
     record {
       written = all_left (check_part (audited page)) (pen_of g.W.Write.contents c.args.out.now) (checks (question_node c.args.question)) (conditions_in_left c.conditions_in-checks.result) (c.conditions_in-checks.ensures ∙ ap checks c.statement.ensures);
-      kept = forgotten (bytes_of page.policy) page.stores.now c.in_ok-rules.rules c.in_ok-rules.ensures.nothing;
+      kept = forgotten (bytes_of page.policy) page.stores.now c.in_ok-rules.rules c.in_ok-rules.ensures;
     }
 
 pub loop-check-preserved : goal.loop-check-preserved

@@ -21,7 +21,7 @@ loop-guard-init g c =
     record {
       written = all_left (guard_part (audited page)) (pen_of g.W.Write.contents c.args.out.now) (guards n) (guards_left c.guards_at-guards.result)
           (guards_found page.policy n _ c.place.result _ c.requires (of_statement n c.args.statement.statement) (sym c.place.ensures) own c.guards_at-guards.ensures.guards);
-      kept = forgotten (bytes_of page.policy) page.stores.now c.in_ok-rules.rules c.in_ok-rules.ensures.nothing;
+      kept = forgotten (bytes_of page.policy) page.stores.now c.in_ok-rules.rules c.in_ok-rules.ensures;
     }
 
 pub loop-guard-preserved : goal.loop-guard-preserved
