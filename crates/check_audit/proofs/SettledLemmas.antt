@@ -1,5 +1,5 @@
 -- Words of guards that stand one behind the other.
-use Rattle.std.proofs.Common.{◌≡◌, ◌≤◌, ◌-◌, ℕ, zero, suc, Bool, true, Some, List, [], ◌∷◌, ◌++◌, length, length-append, append_assoc, drop, take, filter, map, refl, sym, ap, ◌∙◌, subst, arith}
+use Rattle.std.proofs.Common.{◌≡◌, ◌≤◌, ◌-◌, ℕ, zero, suc, Some, List, [], ◌∷◌, ◌++◌, length, length-append, append_assoc, drop, take, map, refl, sym, ap, ◌∙◌, subst, arith}
 use Rattle.std.specs.List.{slice_get}
 use Rattle.std.specs.Option.{option_map}
 use Rattle.std.proofs.lemmas.List.{drop-append-le, length-drop, take-append-le, take_all}
@@ -89,26 +89,21 @@ one_settled es more e words longer new laid full items bytes last =
     )
 
 -- one guard more is told, and one is left less
-pub told_settled : (front more all : List Settled) (s : Settled) (is : Node → Bool) (of : Node → Settled) (left after : List Node) (g : Node) → front ++ map of (filter is left) ≡ all
-    → more ≡ front ++ s ∷ [] → left ≡ g ∷ after → is g ≡ true → s ≡ of g → more ++ map of (filter is after) ≡ all
-told_settled front more all s is of left after g so items goes constant same =
-    let kept : filter is left ≡ g ∷ filter is after = rw (goes, constant) refl in
-    ap (λ l. l ++ map of (filter is after)) items
-    ∙ append_assoc front (s ∷ []) (map of (filter is after))
-    ∙ ap (λ x. front ++ x ∷ map of (filter is after)) same
-    ∙ ap (λ ns. front ++ map of ns) (sym kept)
+pub told_settled : (front more all : List Settled) (s : Settled) (of : Node → Settled) (left after : List Node) (g : Node) → front ++ map of left ≡ all
+    → more ≡ front ++ s ∷ [] → left ≡ g ∷ after → s ≡ of g → more ++ map of after ≡ all
+told_settled front more all s of left after g so items goes same =
+    ap (λ l. l ++ map of after) items
+    ∙ append_assoc front (s ∷ []) (map of after)
+    ∙ ap (λ x. front ++ x ∷ map of after) same
+    ∙ ap (λ ns. front ++ map of ns) (sym goes)
     ∙ so
 
-pub warned_settled : (before after_one all : List Warning) (w : Warning) (is : Node → Bool) (n m : ℕ) (left after : List Node) (g : Node) → before ++ numbered_constants n (filter is left) ≡ all
-    → after_one ≡ before ++ w ∷ [] → left ≡ g ∷ after → is g ≡ true → w ≡ record { place = g.place; oddity = Constant n } → m ≡ suc n → after_one ++ numbered_constants m (filter is after) ≡ all
-warned_settled before after_one all w is n m left after g so items goes constant same next =
-    let kept : filter is left ≡ g ∷ filter is after = rw (goes, constant) refl in
-    ap (λ l. l ++ numbered_constants m (filter is after)) items
-    ∙ append_assoc before (w ∷ []) (numbered_constants m (filter is after))
-    ∙ ap (λ k. before ++ w ∷ numbered_constants k (filter is after)) next
-    ∙ ap (λ x. before ++ x ∷ numbered_constants (suc n) (filter is after)) same
-    ∙ ap (λ ns. before ++ numbered_constants n ns) (sym kept)
+pub warned_settled : (before after_one all : List Warning) (w : Warning) (n m : ℕ) (left after : List Node) (g : Node) → before ++ numbered_constants n left ≡ all
+    → after_one ≡ before ++ w ∷ [] → left ≡ g ∷ after → w ≡ record { place = g.place; oddity = Constant n } → m ≡ suc n → after_one ++ numbered_constants m after ≡ all
+warned_settled before after_one all w n m left after g so items goes same next =
+    ap (λ l. l ++ numbered_constants m after) items
+    ∙ append_assoc before (w ∷ []) (numbered_constants m after)
+    ∙ ap (λ k. before ++ w ∷ numbered_constants k after) next
+    ∙ ap (λ x. before ++ x ∷ numbered_constants (suc n) after) same
+    ∙ ap (λ ns. before ++ numbered_constants n ns) (sym goes)
     ∙ so
-
-pub one_longer : (es more : List SettledEntry) (e : SettledEntry) → more ≡ es ++ e ∷ [] → length more ≡ suc (length es)
-one_longer es more e items = ap (λ (l : List SettledEntry). length l) items ∙ omega (arith, length-append es (e ∷ []))

@@ -1,4 +1,5 @@
 -- How structs of the code are seen. No module outside of this folder cites one of it.
+pub mod States
 pub mod Settled
 pub mod Settling
 pub mod Detailing

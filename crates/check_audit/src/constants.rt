@@ -1,94 +1,105 @@
 //! Guards whose conditions name no question.
 
-ghost use Rattle.std.specs.Prelude.{◌≡◌, ◌++◌, IfOk, OnOk};
+ghost use Rattle.std.specs.Prelude.{◌≡◌, ◌++◌, IfOk, OnOk, length};
 ghost use Rattle.ifr_expr.specs.code.Expressions.{tree_of};
+ghost use Rattle.ifr_nodes.specs.Accepted.{IsAccepted};
 ghost use Rattle.ifr_nodes.specs.Nodes.{nodes_of};
-ghost use Rattle.ifr_scopes.specs.code.Lists.{guard_node};
 ghost use Rattle.condition_text.specs.Senses.{sense};
 ghost use Rattle.condition_text.specs.Texts.{text};
-ghost use Rattle.check_audit.specs.Constants.{constant_warnings, constants, holds_always, is_constant, unasked};
+ghost use Rattle.check_audit.specs.Constants.{constant_guards, constant_warnings, constants};
 ghost use Rattle.check_audit.specs.code.Settling.{constants_of};
+ghost use Rattle.check_audit.specs.code.States.{states_of};
 
+use crate::constant_guards::ConstantGuards;
+use crate::guard_states::GuardState;
 use crate::settled::{Constants, SettledEntry};
 use crate::warning::{Oddity, Warning};
 use condition_text::ConditionText;
 use hii_bytes::Watched;
-use ifr_expr::{Answers, Expr, Value};
-use ifr_scopes::{Forms, Guard};
+use ifr_expr::Expr;
 use std::alloc::{AllocError, Global};
 
-// What no question answers.
-struct Unasked {}
-
-impl<'v> Answers<'v> for Unasked {
-    ghost answers = { λ _ id. unasked id };
-
-    fn answer(&self, _question: u16) -> Value<'v> {
-        Value::Undefined
-    }
-
-    fn number(&self, _question: u16) -> Option<u64> {
-        None
-    }
-}
-
-// Whether the condition of a guard names no question, in the rules that it names neither.
-fn is_constant<'a>(forms: &Forms<'a>, guard: Guard<'a>) -> bool
-    ensures { result ≡ is_constant (nodes_of forms.now) (guard_node guard.entry) }
+// How many guards of a package have conditions that name no question.
+fn constants_count(ifr: &[u8], states: &[GuardState]) -> usize
+    requires accepted { IsAccepted ifr.now }
+    requires told { states.now ≡ states_of (nodes_of ifr.now) }
+    ensures { result ≡ length (constant_guards (nodes_of ifr.now)) }
 {
-    forms
-        .dependence(guard.condition(), guard.this())
-        .next()
-        .is_none()
+    let mut count = 0;
+    let mut guards = ConstantGuards::over(ifr, states);
+    while let Some(_) = guards.step() {
+        count += 1;
+    }
+    count
 }
 
-// Whether the condition of a guard holds where no question answers.
-fn holds_always<'a>(forms: &Forms<'a>, guard: Guard<'a>) -> bool
-    ensures { result ≡ holds_always (nodes_of forms.now) (guard_node guard.entry) }
+/// Adds the guards of a package whose conditions name no question, in the rules that they name neither, each with its number among
+/// them. Its guards have these states. Room is taken for as many as there are.
+pub(crate) fn add_constants(
+    ifr: &[u8],
+    states: &[GuardState],
+    warnings: &mut Vec<Warning>,
+) -> Result<(), AllocError>
+    requires accepted { IsAccepted ifr.now }
+    requires told { states.now ≡ states_of (nodes_of ifr.now) }
+    ensures { OnOk result (warnings.new.items ≡ warnings.old.items ++ constant_warnings (nodes_of ifr.now)) }
 {
-    guard.condition().holds(&Unasked {}, forms, guard.this())
+    warnings.reserve_exact(constants_count(ifr, states))?;
+    let mut number = 0;
+    let mut guards = ConstantGuards::over(ifr, states);
+    while let Some(guard) = guards.step() {
+        warnings.push(Warning {
+            place: guard.node.op().place,
+            oddity: Oddity::Constant(number),
+        })?;
+        number += 1;
+    }
+    Ok(())
 }
 
-// Adds what an expression says.
-fn add_words(alloc: Global, expression: Expr<'_>, words: &mut Vec<u8>) -> Result<(), AllocError>
-    ensures { OnOk result (words.new.items ≡ words.old.items ++ text (sense (tree_of expression.entry))) }
+// Some words, and what an expression says behind them.
+fn with_words(alloc: Global, expression: Expr<'_>, words: Vec<u8>) -> Result<Vec<u8>, AllocError>
+    ensures { IfOk result (λ longer. longer.items ≡ words.items ++ text (sense (tree_of expression.entry))) }
 {
     let said = ConditionText::of(alloc, expression)?;
-    let mut buffer = Watched::new(Vec::new(alloc));
+    let mut buffer = Watched::new(words);
     said.put(&mut buffer);
     if buffer.failed() {
         return Err(AllocError);
     }
-    words.extend_from_slice(&buffer.into_inner())
+    Ok(buffer.into_inner())
 }
 
-/// Adds the guards of a form set whose conditions name no question, in the rules that they name neither, each with its number among
-/// them, and tells what these are.
-pub(crate) fn add_constants<'a>(
-    alloc: Global,
-    forms: &Forms<'a>,
-    warnings: &mut Vec<Warning>,
-) -> Result<Constants, AllocError>
-    ensures settled { IfOk result (λ settled. constants_of settled ≡ constants (nodes_of forms.now)) }
-    ensures added { OnOk result (warnings.new.items
-        ≡ warnings.old.items ++ constant_warnings (nodes_of forms.now)) }
+// Where words end. Words of 4 GiB are more than memory is taken for.
+fn end_of(words: &[u8]) -> Result<u32, AllocError>
+    ensures { IfOk result (λ end. end ≡ length words.now) }
 {
-    let mut entries = Vec::new(alloc);
+    match u32::try_from(words.len()) {
+        Ok(end) => Ok(end),
+        Err(_) => Err(AllocError),
+    }
+}
+
+/// What is told of the guards of a package whose conditions name no question, by place. Its guards have these states.
+pub(crate) fn constants_of(
+    alloc: Global,
+    ifr: &[u8],
+    states: &[GuardState],
+) -> Result<Constants, AllocError>
+    requires accepted { IsAccepted ifr.now }
+    requires told { states.now ≡ states_of (nodes_of ifr.now) }
+    ensures { IfOk result (λ settled. constants_of settled ≡ constants (nodes_of ifr.now)) }
+{
+    let mut entries = Vec::with_capacity(alloc, constants_count(ifr, states))?;
     let mut words = Vec::new(alloc);
-    let mut guards = forms.guards();
-    while let Some(guard) = guards.next() {
-        if is_constant(forms, guard) {
-            warnings.push(Warning {
-                place: guard.place(),
-                oddity: Oddity::Constant(entries.len() as u32),
-            })?;
-            add_words(alloc, guard.condition(), &mut words)?;
-            entries.push(SettledEntry {
-                code: guard.code(),
-                holds: holds_always(forms, guard),
-                end: words.len(),
-            })?;
-        }
+    let mut guards = ConstantGuards::over(ifr, states);
+    while let Some(guard) = guards.step() {
+        words = with_words(alloc, guard.node.expression(), words)?;
+        entries.push(SettledEntry {
+            end: end_of(&words)?,
+            code: guard.node.op().code,
+            holds: guard.holds,
+        })?;
     }
     Ok(Constants { entries, words })
 }

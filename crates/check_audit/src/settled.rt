@@ -16,11 +16,14 @@ pub(crate) struct Settled<'c> {
 /// What is kept of such a guard.
 #[derive(Clone, Copy)]
 pub(crate) struct SettledEntry {
+    /// Where the words of its condition end, and those of the next one begin, in bytes.
+    pub end: u32,
     pub code: u8,
     pub holds: bool,
-    /// Where the words of its condition end, and those of the next one begin, in bytes.
-    pub end: usize,
 }
+
+// One is held for each of them.
+const _: () = prove!(size_of::<SettledEntry>() == 8);
 
 /// The guards of a form set whose conditions name no question, by place, with the words of their conditions one behind the other.
 #[derive(Drop)]
@@ -41,7 +44,7 @@ impl Constants {
         ensures { result ≡ start_of 0 self.now.entries.items number }
     {
         match number.checked_sub(1) {
-            Some(before) => self.entries[before].end,
+            Some(before) => self.entries[before].end as usize,
             None => 0,
         }
     }
@@ -64,7 +67,7 @@ impl Constants {
         Some(Settled {
             code: entry.code,
             holds: entry.holds,
-            words: self.words_between(start, entry.end),
+            words: self.words_between(start, entry.end as usize),
         })
     }
 }

@@ -1,31 +1,26 @@
-use Rattle.std.proofs.Common.{◌≡◌, arith, filter, map, length, refl, sym, ◌∙◌}
+use Rattle.std.proofs.Common.{◌+◌, List, length, refl, ap, arith}
+use Rattle.ifr_opcodes.specs.Forest.{Node}
 use Rattle.ifr_nodes.specs.Nodes.{nodes_of}
-use Rattle.ifr_scopes.specs.code.Lists.{all_guards_left, guard_node}
-use Rattle.check_audit.specs.Constants.{is_constant, settled_at}
-use Rattle.check_audit.specs.code.Settled.{settled_from}
+use Rattle.ifr_nodes.specs.code.Views.{node_of}
+use Rattle.check_audit.specs.code.States.{constants_left}
 use Rattle.check_audit.proofs.CountLemmas.{few_constants}
-use Rattle.check_audit.proofs.SettledLemmas.{count_settled, one_longer, one_settled, told_settled, warned_settled}
+use Rattle.check_audit.proofs.SettledLemmas.{warned_settled}
 use Rattle.check_audit.proofs.constants.add_constants.Goals as goal
 
-pub overflow_cast-len : goal.overflow_cast-len
-overflow_cast-len c =
-    let ns = nodes_of c.args.forms.now in
-    let es = c.loop-guard.entries.items in
-    let left = map (settled_at ns) (filter (is_constant ns) (all_guards_left c.loop-guard.guards)) in
-    let few = few_constants c.args.forms.now (settled_from 0 es c.loop-guard.words.items) left c.guards-guards.ensures.accepted.checked c.loop-guard.invariant.settled in
-    omega (arith, few, c.len.ensures, count_settled 0 es c.loop-guard.words.items)
+pub overflow_add-number : goal.overflow_add-number
+overflow_add-number c =
+    let next = c.in-Some.ensures (nodes_of c.args.ifr.now) c.loop-guard.invariant.told in
+    let less = ap (λ (l : List Node). length l) next.0 in
+    let few = few_constants c.args.ifr.now c.requires.accepted.checked in
+    omega (arith, c.loop-guard.invariant.counted, less, few)
 
-pub loop-guard-preserved-in-Continue-branch-3 : goal.loop-guard-preserved-in-Continue-branch-3
-loop-guard-preserved-in-Continue-branch-3 c =
-    let ns = nodes_of c.args.forms.now in
-    let es = c.loop-guard.entries.items in
-    let words = c.loop-guard.words.items in
-    let g = guard_node c.in-Some.guard in
-    let number : c.len.result ≡ length es = omega (arith, c.len.ensures, c.loop-guard.entries.ok) in
-    let one = one_settled es c.push-then-is_constant.new.self.items _ words c.add_words.new.words.items _ c.loop-guard.invariant.laid c.loop-guard.invariant.full c.in_ok-push-2.ensures.items c.in_ok-add_words.ensures (omega (arith, c.len-then-is_constant.ensures, c.add_words.new.words.ok)) in
+pub loop-guard-preserved : goal.loop-guard-preserved
+loop-guard-preserved c =
+    let ns = nodes_of c.args.ifr.now in
+    let next = c.in-Some.ensures ns c.loop-guard.invariant.told in
+    let less = ap (λ (l : List Node). length l) next.0 in
     record {
-      laid = one.0;
-      full = one.1;
-      settled = told_settled (settled_from 0 es words) _ _ _ (is_constant ns) (settled_at ns) (all_guards_left c.loop-guard.guards) (all_guards_left c.next.new.self) g c.loop-guard.invariant.settled one.2 c.in-Some.ensures.steps (sym c.is_constant.ensures ∙ c.if-is_constant.true) (rw (c.code.ensures, c.holds_always.ensures, c.condition.ensures) refl);
-      added = warned_settled c.loop-guard.warnings.items c.push.new.self.items _ _ (is_constant ns) (length es) (length c.push-then-is_constant.new.self.items) (all_guards_left c.loop-guard.guards) (all_guards_left c.next.new.self) g c.loop-guard.invariant.added c.in_ok-push.ensures.items c.in-Some.ensures.steps (sym c.is_constant.ensures ∙ c.if-is_constant.true) (rw (c.place.ensures, number) refl) (one_longer es _ _ c.in_ok-push-2.ensures.items);
+      told = next.3;
+      counted = omega (arith, c.loop-guard.invariant.counted, less);
+      added = warned_settled c.loop-guard.warnings.items c.push.new.self.items _ _ c.loop-guard.number (c.loop-guard.number + 1) (constants_left ns c.loop-guard.guards) (constants_left ns c.step.new.self) (node_of c.in-Some.guard.node) c.loop-guard.invariant.added c.in_ok-push.ensures.items next.0 (rw c.op.ensures.place refl) (omega arith);
     }

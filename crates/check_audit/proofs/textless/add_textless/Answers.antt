@@ -1,4 +1,4 @@
-use Rattle.std.proofs.Common.{◌∙◌, ℕ, List, ap, arith, drop, length}
+use Rattle.std.proofs.Common.{◌∙◌, ℕ, List, ap, arith, length}
 use Rattle.std.proofs.lemmas.List.{length-drop}
 use Rattle.opcode_audit.proofs.LineLemmas.{opcode_size}
 use Rattle.check_audit.proofs.TextlessLemmas.{begins, ends, goes_on}

@@ -3,7 +3,6 @@ use Rattle.std.specs.List.{slice_get}
 use Rattle.std.specs.Option.{option_map}
 use Rattle.std.proofs.lemmas.Bool.{ltb-false, ltb-true}
 use Rattle.std.proofs.lemmas.Option.{slice_get_past, slice_get_read}
-use Rattle.check_audit.specs.Constants.{Settled}
 use Rattle.check_audit.specs.code.Settled.{settled_at, start_of}
 use Rattle.check_audit.specs.code.Settling.{settled_of}
 use Rattle.check_audit.specs.declared.settled.SettledEntry.{SettledEntry}
