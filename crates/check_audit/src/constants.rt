@@ -18,6 +18,7 @@ use condition_text::ConditionText;
 use hii_bytes::Watched;
 use ifr_expr::Expr;
 use std::alloc::{AllocError, Global};
+use std::io;
 
 // How many guards of a package have conditions that name no question.
 fn constants_count(ifr: &[u8], states: &[GuardState]) -> usize
@@ -57,6 +58,19 @@ pub(crate) fn add_constants(
     Ok(())
 }
 
+// How many bytes there are to be room for, where the conditions of these guards are put in words.
+fn words_room(alloc: Global, ifr: &[u8], states: &[GuardState]) -> Result<usize, AllocError>
+    requires accepted { IsAccepted ifr.now }
+    requires told { states.now ≡ states_of (nodes_of ifr.now) }
+{
+    let mut counted = Watched::new(io::sink());
+    let mut guards = ConstantGuards::over(ifr, states);
+    while let Some(guard) = guards.step() {
+        ConditionText::of(alloc, guard.node.expression())?.put(&mut counted);
+    }
+    Ok(counted.taken() as usize)
+}
+
 // Some words, and what an expression says behind them.
 fn with_words(alloc: Global, expression: Expr<'_>, words: Vec<u8>) -> Result<Vec<u8>, AllocError>
     ensures { IfOk result (λ longer. longer.items ≡ words.items ++ text (sense (tree_of expression.entry))) }
@@ -91,7 +105,7 @@ pub(crate) fn constants_of(
     ensures { IfOk result (λ settled. constants_of settled ≡ constants (nodes_of ifr.now)) }
 {
     let mut entries = Vec::with_capacity(alloc, constants_count(ifr, states))?;
-    let mut words = Vec::new(alloc);
+    let mut words = Vec::with_capacity(alloc, words_room(alloc, ifr, states)?)?;
     let mut guards = ConstantGuards::over(ifr, states);
     while let Some(guard) = guards.step() {
         words = with_words(alloc, guard.node.expression(), words)?;

@@ -15,9 +15,9 @@ loop-guard-preserved c =
     let words = c.loop-guard.words.items in
     let g = node_of c.in-Some.guard.node in
     let next = c.in-Some.ensures ns c.loop-guard.invariant.told in
-    let ends : c.in_ok-end_of.field-0 ≡ length c.in_ok-words.words.items = c.in_ok-end_of.ensures ∙ ap (λ (l : List ℕ). length l) c.deref.ensures.value in
+    let ends : c.in_ok-end_of.field-0 ≡ length c.in_ok-words-2.words.items = c.in_ok-end_of.ensures ∙ ap (λ (l : List ℕ). length l) c.deref.ensures.value in
     let coded : c.op.result.code ≡ number g.op = ap number c.op.ensures.bytes in
-    let one = one_settled es c.push.new.self.items _ words c.in_ok-words.words.items _ c.loop-guard.invariant.laid c.loop-guard.invariant.full c.in_ok-push.ensures.items c.in_ok-words.ensures ends in
+    let one = one_settled es c.push.new.self.items _ words c.in_ok-words-2.words.items _ c.loop-guard.invariant.laid c.loop-guard.invariant.full c.in_ok-push.ensures.items c.in_ok-words-2.ensures ends in
     record {
       told = next.3;
       laid = one.0;
