@@ -1,5 +1,5 @@
 -- What operators that take no operands say.
-use Rattle.std.proofs.Common.{◌≡◌, ℕ, ◌*◌, true, List, refl, sym, ap, subst, ◌∙◌}
+use Rattle.std.proofs.Common.{◌≡◌, ℕ, ◌*◌, Bool, true, List, refl, sym, ap, subst, ◌∙◌}
 use Rattle.ifr_opcodes.specs.declared.codes.TheConstants.{EQ_ID_VAL, EQ_ID_ID, EQ_ID_VAL_LIST, QUESTION_REF1, RULE_REF, THIS}
 use Rattle.ifr_opcodes.specs.declared.expressions.LeafOp.{LeafOp}
 use Rattle.ifr_opcodes.specs.declared.expressions.LeafOp.TheVariants as leaf
@@ -13,6 +13,7 @@ use Rattle.ifr_opcodes.specs.Fields.{eq_id_val_question, eq_id_val_value, eq_id_
 use Rattle.ifr_opcodes.specs.Opcode.{number}
 use Rattle.ifr_opcodes.specs.Rows.{is_among}
 use Rattle.condition_text.specs.Senses.{Sense, eq_id_val, eq_id_id, eq_id_val_list, question_ref, rule_ref, uint, constant, leaf_sense, alone}
+use Rattle.condition_text.specs.Texts.{is_short}
 use Rattle.condition_text.proofs.WordLemmas.{of_each}
 
 pub says_eq_id_val : (op : List ℕ) → number op ≡ EQ_ID_VAL → leaf_sense op ≡ eq_id_val (eq_id_val_question op) (eq_id_val_value op)
@@ -76,3 +77,10 @@ leaf_says (leaf.This op) = says_constant (bytes_of op.op) (rw op.coded refl) ∙
 
 pub rule_ref_says : (op : RuleRefOp) → leaf_sense (bytes_of op.op) ≡ rule_ref (rule_ref_rule (bytes_of op.op))
 rule_ref_says op = says_rule_ref (bytes_of op.op) op.coded
+
+-- whether an operator stands as an operand without parentheses, by which one it is
+pub short_leaf : (op is : LeafOp) (short : Bool) → op ≡ is → is_short (leaf_said is) ≡ short → short ≡ is_short (leaf_sense (bytes_of (leaf_operator op)))
+short_leaf op is short e s = sym (ap is_short (leaf_says op) ∙ ap (λ (o : LeafOp). is_short (leaf_said o)) e ∙ s)
+
+pub rule_ref_short : (op : RuleRefOp) → is_short (leaf_sense (bytes_of op.op)) ≡ true
+rule_ref_short op = ap is_short (rule_ref_says op)

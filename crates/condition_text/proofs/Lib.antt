@@ -3,12 +3,10 @@ pub mod Reader
 pub mod WordLemmas
 pub mod ReadLemmas
 pub mod LeafLemmas
-pub mod KindLemmas
-pub mod DraftLemmas
-pub mod PieceLemmas
 pub mod WriteLemmas
-pub mod NextLemmas
-pub mod BuildLemmas
+pub mod StreamLemmas
+pub mod OpeningLemmas
+pub mod FrontLemmas
 pub mod GoodLemmas
 pub mod WorkedTexts
 pub mod SenseValueLemmas

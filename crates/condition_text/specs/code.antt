@@ -1,8 +1,5 @@
--- How the code holds texts that are made. No module outside of this folder cites one of it.
-pub mod Progress
-pub mod Leaves
-pub mod Kinds
-pub mod Pieces
-pub mod Tasks
-pub mod Drafts
+-- How the code makes texts. No module outside of this folder cites one of it.
+pub mod Streams
+pub mod Openings
+pub mod OpeningsLeft
 pub mod Conditions

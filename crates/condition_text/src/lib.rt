@@ -2,11 +2,10 @@
 #![tactic(auto)]
 
 mod condition;
-mod draft;
-mod kind;
 pub mod laws;
 mod leaf;
-mod piece;
+mod opening;
+mod openings;
 mod words;
 
 pub use condition::ConditionText;

@@ -1,16 +1,15 @@
-use Rattle.std.proofs.Common.{◌≤◌, length, reverse, take}
+use Rattle.std.proofs.Common.{length}
 use Rattle.hii_bytes.specs.Watching.{pen_of}
 use Rattle.hii_bytes.specs.code.Writing.{Stands}
-use Rattle.condition_text.specs.code.Conditions.{words_of}
-use Rattle.condition_text.specs.code.Leaves.{leaves_left}
-use Rattle.condition_text.specs.code.Pieces.{woven}
+use Rattle.ifr_expr.specs.Trees.{post}
+use Rattle.ifr_expr.specs.code.Expressions.{operators_left, tree_of}
+use Rattle.condition_text.specs.code.Streams.{said}
 use Rattle.condition_text.proofs.condition.ConditionText.put.Given as goal
 
--- the pieces behind those that are left were written, with the texts of the operators before those that are left
-abbrev pub invariant-loop-left : goal.invariant-loop-left
-invariant-loop-left g l =
-    (l.left ≤ length l.self.pieces.items)
-    × Stands (pen_of g.W.Write.contents l.fn.out) (pen_of g.W.Write.contents l.out) (words_of l.self) (woven (reverse (take l.left l.self.pieces.items)) (leaves_left l.ops))
+-- what stands for the operators before those that are left was written
+abbrev pub invariant-loop-op : goal.invariant-loop-op
+invariant-loop-op g l =
+    Stands (pen_of g.W.Write.contents l.fn.out) (pen_of g.W.Write.contents l.out) (said (post (tree_of l.fn.self.expr))) (said (operators_left l.ops))
 
-abbrev pub decreases-loop-left : goal.decreases-loop-left
-decreases-loop-left g l = l.left
+abbrev pub decreases-loop-op : goal.decreases-loop-op
+decreases-loop-op g l = length (operators_left l.ops)
