@@ -59,23 +59,23 @@ pub(crate) fn add_constants(
 }
 
 // How many bytes there are to be room for, where the conditions of these guards are put in words.
-fn words_room(alloc: Global, ifr: &[u8], states: &[GuardState]) -> Result<usize, AllocError>
+fn words_room(ifr: &[u8], states: &[GuardState]) -> usize
     requires accepted { IsAccepted ifr.now }
     requires told { states.now ≡ states_of (nodes_of ifr.now) }
 {
     let mut counted = Watched::new(io::sink());
     let mut guards = ConstantGuards::over(ifr, states);
     while let Some(guard) = guards.step() {
-        ConditionText::of(alloc, guard.node.expression())?.put(&mut counted);
+        ConditionText::of(guard.node.expression()).put(&mut counted);
     }
-    Ok(counted.taken() as usize)
+    counted.taken() as usize
 }
 
 // Some words, and what an expression says behind them.
-fn with_words(alloc: Global, expression: Expr<'_>, words: Vec<u8>) -> Result<Vec<u8>, AllocError>
+fn with_words(expression: Expr<'_>, words: Vec<u8>) -> Result<Vec<u8>, AllocError>
     ensures { IfOk result (λ longer. longer.items ≡ words.items ++ text (sense (tree_of expression.entry))) }
 {
-    let said = ConditionText::of(alloc, expression)?;
+    let said = ConditionText::of(expression);
     let mut buffer = Watched::new(words);
     said.put(&mut buffer);
     if buffer.failed() {
@@ -105,10 +105,10 @@ pub(crate) fn constants_of(
     ensures { IfOk result (λ settled. constants_of settled ≡ constants (nodes_of ifr.now)) }
 {
     let mut entries = Vec::with_capacity(alloc, constants_count(ifr, states))?;
-    let mut words = Vec::with_capacity(alloc, words_room(alloc, ifr, states)?)?;
+    let mut words = Vec::with_capacity(alloc, words_room(ifr, states))?;
     let mut guards = ConstantGuards::over(ifr, states);
     while let Some(guard) = guards.step() {
-        words = with_words(alloc, guard.node.expression(), words)?;
+        words = with_words(guard.node.expression(), words)?;
         entries.push(SettledEntry {
             end: end_of(&words)?,
             code: guard.node.op().code,

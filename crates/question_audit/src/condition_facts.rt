@@ -1,7 +1,7 @@
 //! The guards around questions and their checks.
 
 ghost use Rattle.std.specs.Prelude.{◌≡◌, ◌+◌, ◌<◌, ◌^◌, IfOk, OnOk, OnErr, length};
-ghost use Rattle.hii_bytes.specs.Watching.{Puts, pen_of};
+ghost use Rattle.hii_bytes.specs.Watching.{Puts};
 ghost use Rattle.ifr_opcodes.specs.Opcode.{number};
 ghost use Rattle.ifr_opcodes.specs.code.Ops.{bytes_of as op_bytes};
 ghost use Rattle.ifr_expr.specs.code.RuleValues.{KeepsNothing, kept_under};
@@ -15,7 +15,6 @@ ghost use Rattle.guard_policy.specs.code.RuleValues.{AreRuleValues};
 ghost use Rattle.guard_policy.specs.code.Views.{bytes_of};
 ghost use Rattle.question_audit.specs.code.Pages.{audited};
 ghost use Rattle.question_audit.specs.ConditionFacts.{check_fact, check_facts, condition_fact, guard_fact, guard_facts, guard_state, state_text, value_at};
-ghost use Rattle.question_audit.specs.code.Beginnings.{Begins};
 
 use crate::facts::put_column;
 use audit_text::{opcode_name, put_hexadecimal};
@@ -101,22 +100,15 @@ struct Heading<'t> {
     state: &'t [u8],
 }
 
-// Writes a condition: its word, its opcode, its place and its byte in the list, its state and what it says. Where an allocation fails
-// nothing is written.
-fn put_condition<W: Write>(
-    alloc: Global,
-    heading: Heading<'_>,
-    condition: AnyCondition<'_>,
-    out: &mut Watched<W>,
-) -> Result<(), AllocError>
+// Writes a condition: its word, its opcode, its place and its byte in the list, its state and what it says.
+fn put_condition<W: Write>(heading: Heading<'_>, condition: AnyCondition<'_>, out: &mut Watched<W>)
     requires code { heading.code ≡ number (any_condition_node condition).op }
     requires in_list { heading.package_place + (any_condition_node condition).place < 2 ^ 64 }
-    ensures told { OnOk result (Puts W.contents out.old out.new
+    ensures { Puts W.contents out.old out.new
         (condition_fact heading.entry.word.now heading.entry.package_place
-        (any_condition_node condition.entry) heading.entry.state.now)) }
-    ensures nothing { OnErr result (out.new ≡ out.old) }
+        (any_condition_node condition.entry) heading.entry.state.now) }
 {
-    let text = ConditionText::of(alloc, condition.condition())?;
+    let text = ConditionText::of(condition.condition());
     let place = u64::from(condition.place());
     put_column(heading.word, out);
     out.put(opcode_name(heading.code));
@@ -129,7 +121,6 @@ fn put_condition<W: Write>(
     out.put(b": ");
     text.put(out);
     out.put(b"\n");
-    Ok(())
 }
 
 /// How a guard stands: whether a DISABLE_IF was removed, and whether the condition of another guard holds.
@@ -162,21 +153,19 @@ pub fn guard_state_by<'a, C: Conditions>(
     state_by(page, AnyCondition::Guard(guard), rules)
 }
 
-// Writes a guard, by values of rules over the stores of the page. Where an allocation fails nothing is written.
+// Writes a guard, by values of rules over the stores of the page.
 fn put_guard<'a, C: Conditions, W: Write>(
-    alloc: Global,
     page: Page<'a, '_, C>,
     package_place: u64,
     guard: Guard<'a>,
     rules: &mut RuleValues,
     out: &mut Watched<W>,
-) -> Result<(), AllocError>
+)
     requires in_list { package_place + (guard_node guard).place < 2 ^ 64 }
     requires kept { AreRuleValues (bytes_of page.policy) page.stores.now rules.old }
     ensures kept { AreRuleValues (bytes_of page.entry.policy) page.entry.stores.now rules.new }
-    ensures told { OnOk result (Puts W.contents out.old out.new
-        (guard_fact (audited page.entry) package_place (guard_node guard.entry))) }
-    ensures nothing { OnErr result (out.new ≡ out.old) }
+    ensures told { Puts W.contents out.old out.new
+        (guard_fact (audited page.entry) package_place (guard_node guard.entry)) }
 {
     let heading = Heading {
         word: b"guard",
@@ -184,10 +173,10 @@ fn put_guard<'a, C: Conditions, W: Write>(
         package_place,
         state: guard_state_by(page, guard, rules),
     };
-    put_condition(alloc, heading, AnyCondition::Guard(guard), out)
+    put_condition(heading, AnyCondition::Guard(guard), out);
 }
 
-/// Writes the guards around a statement, the outermost first. Where an allocation fails, the beginning of these lines may be written.
+/// Writes the guards around a statement, the outermost first. Where an allocation fails nothing is written.
 pub(crate) fn put_guards<'a, C: Conditions, W: Write>(
     alloc: Global,
     page: Page<'a, '_, C>,
@@ -199,14 +188,13 @@ pub(crate) fn put_guards<'a, C: Conditions, W: Write>(
     requires in_list { package_place + length (bytes_of page.policy) < 2 ^ 64 }
     ensures told { OnOk result (Puts W.contents out.old out.new
         (guard_facts (audited page.entry) package_place (statement_node statement.entry))) }
-    ensures begun { OnErr result (Begins (pen_of W.contents out.old) (pen_of W.contents out.new)
-        (guard_facts (audited page.entry) package_place (statement_node statement.entry))) }
+    ensures nothing { OnErr result (out.new ≡ out.old) }
 {
     let forms = page.policy().forms();
     let mut rules = rule_values(alloc, forms)?;
     let mut guards = forms.guards_at(statement.place());
     while let Some(guard) = guards.step() {
-        put_guard(alloc, page, package_place, guard, &mut rules, out)?;
+        put_guard(page, package_place, guard, &mut rules, out);
     }
     Ok(())
 }
@@ -222,21 +210,19 @@ pub fn code_of(op: ConditionOp<'_>) -> u8
     }
 }
 
-// Writes a check, by values of rules over the stores of the page. Where an allocation fails nothing is written.
+// Writes a check, by values of rules over the stores of the page.
 fn put_check<'a, C: Conditions, W: Write>(
-    alloc: Global,
     page: Page<'a, '_, C>,
     package_place: u64,
     check: ConditionView<'a>,
     rules: &mut RuleValues,
     out: &mut Watched<W>,
-) -> Result<(), AllocError>
+)
     requires in_list { package_place + (condition_node check).place < 2 ^ 64 }
     requires kept { AreRuleValues (bytes_of page.policy) page.stores.now rules.old }
     ensures kept { AreRuleValues (bytes_of page.entry.policy) page.entry.stores.now rules.new }
-    ensures told { OnOk result (Puts W.contents out.old out.new
-        (check_fact (audited page.entry) package_place (condition_node check.entry))) }
-    ensures nothing { OnErr result (out.new ≡ out.old) }
+    ensures told { Puts W.contents out.old out.new
+        (check_fact (audited page.entry) package_place (condition_node check.entry)) }
 {
     let condition = AnyCondition::Question(check);
     let heading = Heading {
@@ -245,10 +231,10 @@ fn put_check<'a, C: Conditions, W: Write>(
         package_place,
         state: state_by(page, condition, rules),
     };
-    put_condition(alloc, heading, condition, out)
+    put_condition(heading, condition, out);
 }
 
-/// Writes the checks in the scope of a question, by place. Where an allocation fails, the beginning of these lines may be written.
+/// Writes the checks in the scope of a question, by place. Where an allocation fails nothing is written.
 pub(crate) fn put_checks<'a, C: Conditions, W: Write>(
     alloc: Global,
     page: Page<'a, '_, C>,
@@ -260,14 +246,13 @@ pub(crate) fn put_checks<'a, C: Conditions, W: Write>(
     requires in_list { package_place + length (bytes_of page.policy) < 2 ^ 64 }
     ensures told { OnOk result (Puts W.contents out.old out.new
         (check_facts (audited page.entry) package_place (question_node question.entry))) }
-    ensures begun { OnErr result (Begins (pen_of W.contents out.old) (pen_of W.contents out.new)
-        (check_facts (audited page.entry) package_place (question_node question.entry))) }
+    ensures nothing { OnErr result (out.new ≡ out.old) }
 {
     let forms = page.policy().forms();
     let mut rules = rule_values(alloc, forms)?;
     let mut checks = forms.conditions_in(question.statement());
     while let Some(check) = checks.next() {
-        put_check(alloc, page, package_place, check, &mut rules, out)?;
+        put_check(page, package_place, check, &mut rules, out);
     }
     Ok(())
 }

@@ -40,29 +40,26 @@ use std::io::Write;
 
 // What the guard at a place around an option says, if there is one.
 fn words_at<'a, C: Conditions>(
-    alloc: Global,
     page: Page<'a, '_, C>,
     option: OptionView<'a>,
     place: u32,
-) -> Result<Option<ConditionText<'a>>, AllocError>
+) -> Option<ConditionText<'a>>
     requires { IsNodeOf (bytes_of page.policy) (option_node option) }
-    ensures { IfOk result (λ text. option_map words_of text
-        ≡ option_map condition_words (guard_at place (option_node option.entry))) }
+    ensures { option_map words_of result
+        ≡ option_map condition_words (guard_at place (option_node option.entry)) }
 {
     let mut guards = page.policy().forms().guards_at(option.place());
     while let Some(guard) = guards.next() {
         if guard.place() == place {
-            let text = ConditionText::of(alloc, guard.condition())?;
-            return Ok(Some(text));
+            return Some(ConditionText::of(guard.condition()));
         }
     }
-    Ok(None)
+    None
 }
 
 /// What the guard that denies an option says, where it denies none before: these are the places of what does, to which its own is
 /// added.
 pub fn deciding_words<'a, C: Conditions>(
-    alloc: Global,
     page: Page<'a, '_, C>,
     option: OptionView<'a>,
     denial: Option<Denial>,
@@ -80,7 +77,7 @@ pub fn deciding_words<'a, C: Conditions>(
         return Ok(None);
     };
     if add_place(told, denial.place)? {
-        return words_at(alloc, page, option, denial.place);
+        return Ok(words_at(page, option, denial.place));
     }
     Ok(None)
 }
@@ -124,7 +121,6 @@ struct Common<'l> {
 // Writes an option, behind others: these are the places of what denies them. Where an allocation fails, the beginning of its line
 // may be written.
 fn put_option<'a, C: Conditions, W: Write>(
-    alloc: Global,
     page: Page<'a, '_, C>,
     common: Common<'_>,
     option: OptionView<'a>,
@@ -148,7 +144,7 @@ fn put_option<'a, C: Conditions, W: Write>(
         (option_fact (audited page.entry) common.entry.place common.entry.is_denied places (option_node option.entry))) }
 {
     let denial = own_denial(page, common.locks, common.place, option);
-    let words = deciding_words(alloc, page, option, denial, told)?;
+    let words = deciding_words(page, option, denial, told)?;
     put_column(b"option", out);
     out.put_decimal(option.op().value());
     out.put(b" ");
@@ -197,7 +193,7 @@ pub(crate) fn put_options<'a, C: Conditions, W: Write>(
     let mut told = BTreeSet::new(alloc);
     let mut options = forms.options_of(question.statement());
     while let Some(option) = options.next() {
-        put_option(alloc, page, common, option, &mut told, out)?;
+        put_option(page, common, option, &mut told, out)?;
     }
     Ok(())
 }

@@ -2,7 +2,7 @@
 
 ghost use Rattle.std.specs.Prelude.{◌≡◌, ◌||◌, ◌+◌, ◌<◌, ◌^◌, ℕ, IfOk, OnOk, OnErr, length};
 ghost use Rattle.std.specs.List.{flat_map, list_any};
-ghost use Rattle.hii_bytes.specs.Watching.{Puts, pen_of};
+ghost use Rattle.hii_bytes.specs.Watching.{Puts};
 ghost use Rattle.ifr_expr.specs.code.Expressions.{tree_of};
 ghost use Rattle.ifr_opcodes.specs.Fields.{rule_id};
 ghost use Rattle.ifr_nodes.specs.Guards.{guards};
@@ -15,7 +15,6 @@ ghost use Rattle.guard_policy.specs.code.Views.{bytes_of};
 ghost use Rattle.question_audit.specs.code.Pages.{audited};
 ghost use Rattle.question_audit.specs.ConditionFacts.{checks};
 ghost use Rattle.question_audit.specs.RuleFacts.{condition_references, inner_guards, is_named, names_rule, references_over, rule_fact, rule_facts, rule_references};
-ghost use Rattle.question_audit.specs.code.Beginnings.{Begins};
 ghost use Rattle.question_audit.specs.code.NamedRules.{IsClosed};
 ghost use Rattle.question_audit.specs.code.Places.{has_place};
 
@@ -157,21 +156,19 @@ pub fn id_of_rule<'a>(forms: &Forms<'a>, rule: RuleView<'a>) -> u8
     node_at(forms.bytes(), rule.place()).rule().id()
 }
 
-// Writes a rule. Where an allocation fails nothing is written.
+// Writes a rule.
 fn put_rule<'a, W: Write>(
-    alloc: Global,
     forms: &Forms<'a>,
     package_place: u64,
     rule: RuleView<'a>,
     out: &mut Watched<W>,
-) -> Result<(), AllocError>
+)
     requires node { IsNodeOf forms.now (rule_node rule) }
     requires in_list { package_place + (rule_node rule).place < 2 ^ 64 }
-    ensures told { OnOk result (Puts W.contents out.old out.new
-        (rule_fact package_place (rule_node rule.entry))) }
-    ensures nothing { OnErr result (out.new ≡ out.old) }
+    ensures { Puts W.contents out.old out.new
+        (rule_fact package_place (rule_node rule.entry)) }
 {
-    let text = ConditionText::of(alloc, rule.expression())?;
+    let text = ConditionText::of(rule.expression());
     let id = id_of_rule(forms, rule);
     let place = u64::from(rule.place());
     put_column(b"rule", out);
@@ -183,11 +180,10 @@ fn put_rule<'a, W: Write>(
     out.put(b"): ");
     text.put(out);
     out.put(b"\n");
-    Ok(())
 }
 
-/// Writes the rules that the conditions of a question name, and those that these name in turn, by place. Where an allocation fails,
-/// the beginning of these lines may be written.
+/// Writes the rules that the conditions of a question name, and those that these name in turn, by place. Where an allocation fails
+/// nothing is written.
 pub(crate) fn put_rules<'a, C: Conditions, W: Write>(
     alloc: Global,
     page: Page<'a, '_, C>,
@@ -199,15 +195,14 @@ pub(crate) fn put_rules<'a, C: Conditions, W: Write>(
     requires in_list { package_place + length (bytes_of page.policy) < 2 ^ 64 }
     ensures told { OnOk result (Puts W.contents out.old out.new
         (rule_facts (audited page.entry) package_place (question_node question.entry))) }
-    ensures begun { OnErr result (Begins (pen_of W.contents out.old) (pen_of W.contents out.new)
-        (rule_facts (audited page.entry) package_place (question_node question.entry))) }
+    ensures nothing { OnErr result (out.new ≡ out.old) }
 {
     let places = named_rules(alloc, page.policy(), question)?;
     let forms = page.policy().forms();
     let mut rules = forms.rules();
     while let Some(rule) = rules.next() {
         if has_place(&places, rule.place()) {
-            put_rule(alloc, forms, package_place, rule, out)?;
+            put_rule(forms, package_place, rule, out);
         }
     }
     Ok(())

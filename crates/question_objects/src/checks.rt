@@ -24,22 +24,20 @@ use question_audit::{code_of, state_of};
 use std::alloc::{AllocError, Global};
 use std::io::Write;
 
-// Writes a check, behind others or as the first one. Where an allocation fails nothing is written.
+// Writes a check, behind others or as the first one.
 fn put_check<'a, C: Conditions, W: Write>(
-    alloc: Global,
     page: Page<'a, '_, C>,
     package_place: u64,
     check: ConditionView<'a>,
     is_first: bool,
     out: &mut Watched<W>,
-) -> Result<(), AllocError>
+)
     requires { package_place + (condition_node check).place < 2 ^ 64 }
-    ensures told { OnOk result (Puts W.contents out.old out.new
+    ensures { Puts W.contents out.old out.new
         (before_item (codes "checks") is_first
-        ++ check_item (audited page.entry) package_place (condition_node check.entry))) }
-    ensures nothing { OnErr result (out.new ≡ out.old) }
+        ++ check_item (audited page.entry) package_place (condition_node check.entry)) }
 {
-    let text = ConditionText::of(alloc, check.condition())?;
+    let text = ConditionText::of(check.condition());
     let heading = Heading {
         code: code_of(check.op()),
         place: check.place(),
@@ -51,30 +49,25 @@ fn put_check<'a, C: Conditions, W: Write>(
     put_named(heading, &text, out);
     put_text(b"text", page.text(check.op().message()), out);
     out.put(b"}");
-    Ok(())
 }
 
-/// Writes the checks in the scope of a question, by place. Where an allocation fails, the beginning of the member may be written.
+/// Writes the checks in the scope of a question, by place.
 pub(crate) fn put_checks<'a, C: Conditions, W: Write>(
-    alloc: Global,
     page: Page<'a, '_, C>,
     package_place: u64,
     question: Question<'a>,
     out: &mut Watched<W>,
-) -> Result<(), AllocError>
+)
     requires node { IsNodeOf (bytes_of page.policy) (question_node question) }
     requires in_file { package_place + length (bytes_of page.policy) < 2 ^ 64 }
-    ensures told { OnOk result (Puts W.contents out.old out.new
-        (checks_member (audited page.entry) package_place (question_node question.entry))) }
-    ensures begun { OnErr result (Begins (pen_of W.contents out.old) (pen_of W.contents out.new)
-        (checks_member (audited page.entry) package_place (question_node question.entry))) }
+    ensures { Puts W.contents out.old out.new
+        (checks_member (audited page.entry) package_place (question_node question.entry)) }
 {
     let mut checks = page.policy().forms().conditions_in(question.statement());
     let mut is_first = true;
     while let Some(check) = checks.next() {
-        put_check(alloc, page, package_place, check, is_first, out)?;
+        put_check(page, package_place, check, is_first, out);
         is_first = false;
     }
     put_array_end(is_first, out);
-    Ok(())
 }

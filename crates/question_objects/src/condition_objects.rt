@@ -26,63 +26,53 @@ use question_audit::id_of_rule;
 use std::alloc::{AllocError, Global};
 use std::io::Write;
 
-// Writes a guard as an object. Where an allocation fails nothing is written.
+// Writes a guard as an object.
 fn put_guard_object<'a, C: Conditions, W: Write>(
-    alloc: Global,
     page: Page<'a, '_, C>,
     package_place: u64,
     guard: Guard<'a>,
     out: &mut Watched<W>,
-) -> Result<(), AllocError>
+)
     requires { package_place + (guard_node guard).place < 2 ^ 64 }
-    ensures told { OnOk result (Puts W.contents out.old out.new
-        (guard_object (audited page.entry) package_place (guard_node guard.entry))) }
-    ensures nothing { OnErr result (out.new ≡ out.old) }
+    ensures { Puts W.contents out.old out.new
+        (guard_object (audited page.entry) package_place (guard_node guard.entry)) }
 {
-    let text = ConditionText::of(alloc, guard.condition())?;
+    let text = ConditionText::of(guard.condition());
     put_kind(b"guard", out);
     put_word(b"opcode", opcode_name(guard.code()), out);
     put_condition(heading_of(page, package_place, guard), &text, out);
     end_object(out);
-    Ok(())
 }
 
-// Writes a rule as an object. Where an allocation fails nothing is written.
+// Writes a rule as an object.
 fn put_rule_object<'a, W: Write>(
-    alloc: Global,
     forms: &Forms<'a>,
     package_place: u64,
     rule: RuleView<'a>,
     out: &mut Watched<W>,
-) -> Result<(), AllocError>
+)
     requires node { IsNodeOf forms.now (rule_node rule) }
     requires in_file { package_place + (rule_node rule).place < 2 ^ 64 }
-    ensures told { OnOk result (Puts W.contents out.old out.new
-        (rule_object package_place (rule_node rule.entry))) }
-    ensures nothing { OnErr result (out.new ≡ out.old) }
+    ensures { Puts W.contents out.old out.new
+        (rule_object package_place (rule_node rule.entry)) }
 {
-    let text = ConditionText::of(alloc, rule.expression())?;
+    let text = ConditionText::of(rule.expression());
     let id = id_of_rule(forms, rule);
     put_kind(b"rule", out);
     put_number(b"rule", u64::from(id), out);
     put_rule_members(package_place, rule.place(), &text, out);
     end_object(out);
-    Ok(())
 }
 
-/// Writes the guards and the rules of the form set of a page, by place. Where an allocation fails, the beginning of these objects may be
-/// written.
+/// Writes the guards and the rules of the form set of a page, by place.
 pub(crate) fn put_condition_objects<'a, C: Conditions, W: Write>(
-    alloc: Global,
     page: Page<'a, '_, C>,
     package_place: u64,
     out: &mut Watched<W>,
-) -> Result<(), AllocError>
+)
     requires { package_place + length (bytes_of page.policy) < 2 ^ 64 }
-    ensures told { OnOk result (Puts W.contents out.old out.new
-        (flat_map (condition_object (audited page.entry) package_place) (nodes_of (bytes_of page.entry.policy)))) }
-    ensures begun { OnErr result (Begins (pen_of W.contents out.old) (pen_of W.contents out.new)
-        (flat_map (condition_object (audited page.entry) package_place) (nodes_of (bytes_of page.entry.policy)))) }
+    ensures { Puts W.contents out.old out.new
+        (flat_map (condition_object (audited page.entry) package_place) (nodes_of (bytes_of page.entry.policy))) }
 {
     let forms = page.policy().forms();
     let mut guards = forms.guards();
@@ -91,7 +81,7 @@ pub(crate) fn put_condition_objects<'a, C: Conditions, W: Write>(
     while let Some(node) = nodes.step() {
         if node.is_guard() {
             if let Some(guard) = guards.next() {
-                put_guard_object(alloc, page, package_place, guard, out)?;
+                put_guard_object(page, package_place, guard, out);
             }
             continue;
         }
@@ -99,8 +89,7 @@ pub(crate) fn put_condition_objects<'a, C: Conditions, W: Write>(
             continue;
         }
         if let Some(rule) = rules.next() {
-            put_rule_object(alloc, forms, package_place, rule, out)?;
+            put_rule_object(forms, package_place, rule, out);
         }
     }
-    Ok(())
 }

@@ -198,6 +198,6 @@ pub fn put_questions_objects<'a, C: Conditions, W: Write>(
         &mut spare,
         out,
     )?;
-    put_condition_objects(alloc, page, origin.place, out)?;
+    put_condition_objects(page, origin.place, out);
     Ok(())
 }

@@ -44,78 +44,67 @@ pub(crate) fn heading_of<'a, C: Conditions>(
     }
 }
 
-// Writes all that is known of a guard, behind others or as the first one. Where an allocation fails nothing is written.
+// Writes all that is known of a guard, behind others or as the first one.
 fn put_whole<'a, C: Conditions, W: Write>(
-    alloc: Global,
     page: Page<'a, '_, C>,
     package_place: u64,
     guard: Guard<'a>,
     is_first: bool,
     out: &mut Watched<W>,
-) -> Result<(), AllocError>
+)
     requires { package_place + (guard_node guard).place < 2 ^ 64 }
-    ensures told { OnOk result (Puts W.contents out.old out.new
+    ensures { Puts W.contents out.old out.new
         (before_item (codes "guards") is_first
-        ++ guard_item Alone (audited page.entry) package_place (guard_node guard.entry))) }
-    ensures nothing { OnErr result (out.new ≡ out.old) }
+        ++ guard_item Alone (audited page.entry) package_place (guard_node guard.entry)) }
 {
-    let text = ConditionText::of(alloc, guard.condition())?;
+    let text = ConditionText::of(guard.condition());
     put_before_item(b"guards", is_first, out);
     out.put(b"{");
     put_named(heading_of(page, package_place, guard), &text, out);
     out.put(b"}");
-    Ok(())
 }
 
-// Writes what is told of a guard in this detail. Where an allocation fails nothing is written.
+// Writes what is told of a guard in this detail.
 fn put_guard<'a, C: Conditions, W: Write>(
-    alloc: Global,
     page: Page<'a, '_, C>,
     detail: Detail,
     package_place: u64,
     guard: Guard<'a>,
     is_first: bool,
     out: &mut Watched<W>,
-) -> Result<(), AllocError>
+)
     requires { package_place + (guard_node guard).place < 2 ^ 64 }
-    ensures told { OnOk result (Puts W.contents out.old out.new
+    ensures { Puts W.contents out.old out.new
         (before_item (codes "guards") is_first
-        ++ guard_item detail (audited page.entry) package_place (guard_node guard.entry))) }
-    ensures nothing { OnErr result (out.new ≡ out.old) }
+        ++ guard_item detail (audited page.entry) package_place (guard_node guard.entry)) }
 {
     match detail {
-        Detail::Alone => put_whole(alloc, page, package_place, guard, is_first, out),
+        Detail::Alone => put_whole(page, package_place, guard, is_first, out),
         Detail::Listed => {
             put_before_item(b"guards", is_first, out);
             out.put_decimal(u64::from(guard.place()));
-            Ok(())
         }
     }
 }
 
-/// Writes the guards around a statement in this detail, the outermost first. Where an allocation fails, the beginning of the member may
-/// be written.
+/// Writes the guards around a statement in this detail, the outermost first.
 pub(crate) fn put_guards<'a, C: Conditions, W: Write>(
-    alloc: Global,
     page: Page<'a, '_, C>,
     detail: Detail,
     package_place: u64,
     statement: Statement<'a>,
     out: &mut Watched<W>,
-) -> Result<(), AllocError>
+)
     requires node { IsNodeOf (bytes_of page.policy) (statement_node statement) }
     requires in_file { package_place + length (bytes_of page.policy) < 2 ^ 64 }
-    ensures told { OnOk result (Puts W.contents out.old out.new
-        (guards_member detail (audited page.entry) package_place (statement_node statement.entry))) }
-    ensures begun { OnErr result (Begins (pen_of W.contents out.old) (pen_of W.contents out.new)
-        (guards_member detail (audited page.entry) package_place (statement_node statement.entry))) }
+    ensures { Puts W.contents out.old out.new
+        (guards_member detail (audited page.entry) package_place (statement_node statement.entry)) }
 {
     let mut guards = page.policy().forms().guards_at(statement.place());
     let mut is_first = true;
     while let Some(guard) = guards.step() {
-        put_guard(alloc, page, detail, package_place, guard, is_first, out)?;
+        put_guard(page, detail, package_place, guard, is_first, out);
         is_first = false;
     }
     put_array_end(is_first, out);
-    Ok(())
 }

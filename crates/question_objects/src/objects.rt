@@ -122,15 +122,8 @@ fn put_conditions<'a, C: Conditions, W: Write>(
     ensures begun { OnErr result (Begins (pen_of W.contents out.old) (pen_of W.contents out.new)
         (condition_lists detail (audited page.entry) package_place (question_node question.entry))) }
 {
-    put_guards(
-        alloc,
-        page,
-        detail,
-        package_place,
-        question.statement(),
-        out,
-    )?;
-    put_checks(alloc, page, package_place, question, out)?;
+    put_guards(page, detail, package_place, question.statement(), out);
+    put_checks(page, package_place, question, out);
     put_rules(alloc, page, detail, package_place, question, out)?;
     Ok(())
 }

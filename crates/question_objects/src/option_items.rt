@@ -71,7 +71,7 @@ fn put_item<'a, C: Conditions, W: Write>(
     ensures nothing { OnErr result (out.new ≡ out.old) }
 {
     let denial = own_denial(page, common.locks, common.place, option);
-    let words = told_words(alloc, page, common.detail, option, denial, told)?;
+    let words = told_words(page, common.detail, option, denial, told)?;
     put_before_item(b"options", is_first, out);
     put_option(page, common.is_denied, option, denial, words, out);
     Ok(())

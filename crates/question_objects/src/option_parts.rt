@@ -31,7 +31,6 @@ use std::io::Write;
 /// What is told in this detail of the guard that denies an option, where it denies none before: these are the places of what does, to
 /// which its own is added.
 pub(crate) fn told_words<'a, C: Conditions>(
-    alloc: Global,
     page: Page<'a, '_, C>,
     detail: Detail,
     option: OptionView<'a>,
@@ -47,7 +46,7 @@ pub(crate) fn told_words<'a, C: Conditions>(
         → (place : ℕ) → has_place told.new place ≡ is_among place (with_place denial places)) }
 {
     match detail {
-        Detail::Alone => deciding_words(alloc, page, option, denial, told),
+        Detail::Alone => deciding_words(page, option, denial, told),
         Detail::Listed => {
             if let Some(denial) = denial {
                 add_place(told, denial.place)?;

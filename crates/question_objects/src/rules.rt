@@ -46,22 +46,20 @@ pub(crate) fn put_rule_members<W: Write>(
     put_words(text, out);
 }
 
-// Writes a rule, behind others or as the first one. Where an allocation fails nothing is written.
+// Writes a rule, behind others or as the first one.
 fn put_rule<'a, W: Write>(
-    alloc: Global,
     forms: &Forms<'a>,
     package_place: u64,
     rule: RuleView<'a>,
     is_first: bool,
     out: &mut Watched<W>,
-) -> Result<(), AllocError>
+)
     requires node { IsNodeOf forms.now (rule_node rule) }
     requires in_file { package_place + (rule_node rule).place < 2 ^ 64 }
-    ensures told { OnOk result (Puts W.contents out.old out.new
-        (before_item (codes "rules") is_first ++ rule_item package_place (rule_node rule.entry))) }
-    ensures nothing { OnErr result (out.new ≡ out.old) }
+    ensures { Puts W.contents out.old out.new
+        (before_item (codes "rules") is_first ++ rule_item package_place (rule_node rule.entry)) }
 {
-    let text = ConditionText::of(alloc, rule.expression())?;
+    let text = ConditionText::of(rule.expression());
     let id = id_of_rule(forms, rule);
     put_before_item(b"rules", is_first, out);
     out.put(b"{");
@@ -69,26 +67,20 @@ fn put_rule<'a, W: Write>(
     out.put_decimal(u64::from(id));
     put_rule_members(package_place, rule.place(), &text, out);
     out.put(b"}");
-    Ok(())
 }
 
-// Writes the rules of a package at these places, by place. Where an allocation fails, the beginning of the member may be written.
+// Writes the rules of a package at these places, by place.
 fn put_at<'a, W: Write>(
-    alloc: Global,
     policy: Policy<'a, '_>,
     places: &BTreeSet<u32>,
     package_place: u64,
     out: &mut Watched<W>,
-) -> Result<(), AllocError>
+)
     requires { package_place + length (bytes_of policy) < 2 ^ 64 }
-    ensures told { OnOk result ((n : Placed)
+    ensures { (n : Placed)
         → ((place : ℕ) → has_place places.now place ≡ is_named (nodes_of (bytes_of policy.entry)) n place)
         → Puts W.contents out.old out.new
-        (rules_member Alone (nodes_of (bytes_of policy.entry)) package_place n)) }
-    ensures begun { OnErr result ((n : Placed)
-        → ((place : ℕ) → has_place places.now place ≡ is_named (nodes_of (bytes_of policy.entry)) n place)
-        → Begins (pen_of W.contents out.old) (pen_of W.contents out.new)
-        (rules_member Alone (nodes_of (bytes_of policy.entry)) package_place n)) }
+        (rules_member Alone (nodes_of (bytes_of policy.entry)) package_place n) }
 {
     let forms = policy.forms();
     let mut rules = forms.rules();
@@ -97,15 +89,14 @@ fn put_at<'a, W: Write>(
         if !has_place(places, rule.place()) {
             continue;
         }
-        put_rule(alloc, forms, package_place, rule, is_first, out)?;
+        put_rule(forms, package_place, rule, is_first, out);
         is_first = false;
     }
     put_array_end(is_first, out);
-    Ok(())
 }
 
 /// Writes the rules that the conditions of a question name, and those that these name in turn, by place, where it is told alone. Where
-/// an allocation fails, the beginning of the member may be written.
+/// an allocation fails nothing is written.
 pub(crate) fn put_rules<'a, C: Conditions, W: Write>(
     alloc: Global,
     page: Page<'a, '_, C>,
@@ -118,14 +109,14 @@ pub(crate) fn put_rules<'a, C: Conditions, W: Write>(
     requires in_file { package_place + length (bytes_of page.policy) < 2 ^ 64 }
     ensures told { OnOk result (Puts W.contents out.old out.new
         (rules_member detail (nodes_of (bytes_of page.entry.policy)) package_place (question_node question.entry))) }
-    ensures begun { OnErr result (Begins (pen_of W.contents out.old) (pen_of W.contents out.new)
-        (rules_member detail (nodes_of (bytes_of page.entry.policy)) package_place (question_node question.entry))) }
+    ensures nothing { OnErr result (out.new ≡ out.old) }
 {
     match detail {
         Detail::Alone => {
             let places = named_rules(alloc, page.policy(), question)?;
-            put_at(alloc, page.policy(), &places, package_place, out)
+            put_at(page.policy(), &places, package_place, out);
         }
-        Detail::Listed => Ok(()),
+        Detail::Listed => {}
     }
+    Ok(())
 }

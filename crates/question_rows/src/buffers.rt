@@ -89,7 +89,7 @@ pub(crate) fn place_text(
 pub(crate) fn words_text(alloc: Global, expression: Expr<'_>) -> Result<Vec<u8>, AllocError>
     ensures { IfOk result (λ bytes. bytes.items ≡ text (sense (tree_of expression.entry))) }
 {
-    let said = ConditionText::of(alloc, expression)?;
+    let said = ConditionText::of(expression);
     let mut buffer = Watched::new(Vec::new(alloc));
     said.put(&mut buffer);
     text_in(buffer)

@@ -151,7 +151,7 @@ fn put_forbidden<'a, C: Conditions, W: Write>(
     ensures nothing { IfErr result (λ fault. (fault ≡ out_of_memory) × (out.new ≡ out.old)) }
 {
     let names = StoreNames::read(alloc, page.policy().forms())?;
-    let text = ConditionText::of(alloc, forbidding.condition.condition())?;
+    let text = ConditionText::of(forbidding.condition.condition());
     let ids = ids_of(alloc, page.policy().forms(), forbidding.condition)?;
     put_line(telling, stop, out);
     put_answer(telling, page, stop.reply, out);

@@ -15,7 +15,7 @@ const WORDS: &[u8] = b"ideqval q7 == 1";
 fn a_condition_is_said_in_words(rt: HostRuntime) {
     let condition = Expr::check(&CONDITION, 0, 6).expect(&rt, "a condition");
     assert!(rt; condition.operators().next().is_some());
-    let said = ConditionText::of(rt.alloc(), condition).expect(&rt, "words");
+    let said = ConditionText::of(condition);
     let mut out = Watched::new(Vec::new(rt.alloc()));
     said.put(&mut out);
     assert!(rt; out.into_inner().as_slice() == WORDS);

@@ -79,7 +79,6 @@ fn is_short(text: &ConditionText<'_>) -> Result<bool, Fault>
 
 // The condition of a reason that is a guard around the question, where it is short.
 fn short_condition<'a>(
-    alloc: Global,
     policy: Policy<'a, '_>,
     question: Question<'a>,
     reason: Denial,
@@ -92,7 +91,7 @@ fn short_condition<'a>(
     let Some(guard) = guard_around(policy, question, reason.place) else {
         return Ok(None);
     };
-    let text = ConditionText::of(alloc, guard.condition())?;
+    let text = ConditionText::of(guard.condition());
     if is_short(&text)? {
         Ok(Some(text))
     } else {
@@ -120,7 +119,7 @@ impl<'a> Details<'a> {
         match answer {
             Answer::Never(reason) => {
                 let page = browser.page();
-                details.condition = short_condition(alloc, page.policy(), question, *reason)?;
+                details.condition = short_condition(page.policy(), question, *reason)?;
             }
             Answer::Written(each) => details.written = with_written(alloc, browser, *each)?,
             _ => {}

@@ -43,13 +43,7 @@ put_check-requires-clause-in_list g c =
 
 pub loop-check-preserved : goal.loop-check-preserved
 loop-check-preserved g c = record {
-  written = past_item (check_fact (audited c.args.page) c.args.package_place) _ _ _ _ _ _ (condition_node c.in-Some.check) c.in-Some.ensures.steps c.loop-check.invariant.written c.in_ok-put_check.ensures.told;
+  written = past_item (check_fact (audited c.args.page) c.args.package_place) _ _ _ _ _ _ (condition_node c.in-Some.check) c.in-Some.ensures.steps c.loop-check.invariant.written c.put_check.ensures.told;
   nodes = rest_of (bytes_of c.args.page.policy) _ _ _ c.in-Some.ensures.steps c.loop-check.invariant.nodes;
-  kept = c.in_ok-put_check.ensures.kept;
+  kept = c.put_check.ensures.kept;
 }
-
-pub returns-in_err-put_check-clause-begun : goal.returns-in_err-put_check-clause-begun
-returns-in_err-put_check-clause-begun g c = at_error c.from_residual-in_err-put_check.result (rw c.in_err-put_check.ensures.nothing (stands_begun c.loop-check.invariant.written))
-
-pub returns-in_err-rules-clause-begun : goal.returns-in_err-rules-clause-begun
-returns-in_err-rules-clause-begun g c = at_error c.from_residual.result (nothing_begun _ _)

@@ -35,13 +35,7 @@ put_guard-requires-clause-in_list g c =
 
 pub loop-guard-preserved : goal.loop-guard-preserved
 loop-guard-preserved g c = record {
-  written = past_item (guard_fact (audited c.args.page) c.args.package_place) _ _ _ _ _ _ _ c.in-Some.ensures.steps c.loop-guard.invariant.written c.in_ok-put_guard.ensures.told;
+  written = past_item (guard_fact (audited c.args.page) c.args.package_place) _ _ _ _ _ _ _ c.in-Some.ensures.steps c.loop-guard.invariant.written c.put_guard.ensures.told;
   own = c.in-Some.ensures.kept ∙ c.loop-guard.invariant.own;
-  kept = c.in_ok-put_guard.ensures.kept;
+  kept = c.put_guard.ensures.kept;
 }
-
-pub returns-in_err-put_guard-clause-begun : goal.returns-in_err-put_guard-clause-begun
-returns-in_err-put_guard-clause-begun g c = at_error c.from_residual-in_err-put_guard.result (rw c.in_err-put_guard.ensures.nothing (stands_begun c.loop-guard.invariant.written))
-
-pub returns-in_err-rules-clause-begun : goal.returns-in_err-rules-clause-begun
-returns-in_err-rules-clause-begun g c = at_error c.from_residual.result (nothing_begun _ _)

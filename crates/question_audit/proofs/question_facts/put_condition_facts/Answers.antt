@@ -4,7 +4,8 @@ use Rattle.condition_text.proofs.WriteLemmas.{written_as}
 use Rattle.question_audit.specs.code.Pages.{audited}
 use Rattle.question_audit.specs.ConditionFacts.{guard_facts}
 use Rattle.question_audit.specs.code.Beginnings.{Begins}
-use Rattle.question_audit.proofs.BeginningLemmas.{at_error, begun_before, begun_behind}
+use Rattle.question_audit.proofs.BeginningLemmas.{at_error, begun_before, begun_behind, first_begun}
+use Rattle.question_audit.proofs.OptionLemmas.{nothing_begun}
 use Rattle.question_audit.proofs.question_facts.put_condition_facts.Goals as goal
 
 pub returns-clause-told : goal.returns-clause-told
@@ -14,18 +15,17 @@ returns-clause-told g c =
 
 pub returns-in_err-put_guards-clause-begun : goal.returns-in_err-put_guards-clause-begun
 returns-in_err-put_guards-clause-begun g c =
-    let same = ap (guard_facts (audited c.args.page) c.args.package_place) c.statement.ensures in
-    at_error c.from_residual.result (begun_before _ (begun_before _ (begun_before _ (subst (Begins _ _) same c.in_err-put_guards.ensures.begun))))
+    at_error c.from_residual.result (rw c.in_err-put_guards.ensures.nothing (nothing_begun _ _))
 
 pub returns-in_err-put_checks-clause-begun : goal.returns-in_err-put_checks-clause-begun
 returns-in_err-put_checks-clause-begun g c =
     let same = ap (guard_facts (audited c.args.page) c.args.package_place) c.statement.ensures in
-    at_error c.from_residual-in_err-put_checks.result (begun_before _ (begun_before _ (begun_behind (written_as c.in_ok-put_guards.ensures.told same) c.in_err-put_checks.ensures.begun)))
+    at_error c.from_residual-in_err-put_checks.result (rw c.in_err-put_checks.ensures.nothing (begun_before _ (begun_before _ (first_begun _ (written_as c.in_ok-put_guards.ensures.told same)))))
 
 pub returns-in_err-put_rules-clause-begun : goal.returns-in_err-put_rules-clause-begun
 returns-in_err-put_rules-clause-begun g c =
     let same = ap (guard_facts (audited c.args.page) c.args.package_place) c.statement.ensures in
-    at_error c.from_residual-in_err-put_rules.result (begun_before _ (begun_behind (written_as c.in_ok-put_guards.ensures.told same ⨾ c.in_ok-put_checks.ensures.told) c.in_err-put_rules.ensures.begun))
+    at_error c.from_residual-in_err-put_rules.result (rw c.in_err-put_rules.ensures.nothing (begun_before _ (first_begun _ (written_as c.in_ok-put_guards.ensures.told same ⨾ c.in_ok-put_checks.ensures.told))))
 
 pub returns-in_err-put_options-clause-begun : goal.returns-in_err-put_options-clause-begun
 returns-in_err-put_options-clause-begun g c =

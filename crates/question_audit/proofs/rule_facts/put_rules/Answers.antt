@@ -16,9 +16,7 @@ use Rattle.guard_policy.specs.declared.policy.Policy.{Policy}
 use Rattle.guard_policy.proofs.OptionLemmas.{first_of, rest_of}
 use Rattle.question_audit.proofs.AroundLemmas.{same_forms}
 use Rattle.question_audit.specs.RuleFacts.{is_named, rule_fact}
-use Rattle.question_audit.proofs.BeginningLemmas.{at_error}
 use Rattle.question_audit.proofs.FactLemmas.{all_left, past_failing, past_passing}
-use Rattle.question_audit.proofs.OptionLemmas.{nothing_begun}
 use Rattle.question_audit.proofs.rule_facts.put_rules.Goals as goal
 
 abbrev is_told : List Node → Node → Node → Bool
@@ -36,9 +34,6 @@ loop-rule-init g c =
       nodes = subst (AreNodesOf bytes) (sym all) (All-filter is_rule (IsNodeOf bytes) ns (all_nodes bytes page.policy.accepted.checked.spelled));
     }
 
-pub returns-in_err-places-clause-begun : goal.returns-in_err-places-clause-begun
-returns-in_err-places-clause-begun g c = at_error c.from_residual.result (nothing_begun _ _)
-
 pub put_rule-requires-clause-node : goal.put_rule-requires-clause-node
 put_rule-requires-clause-node g c =
     let page = c.args.page in
@@ -54,8 +49,8 @@ put_rule-requires-clause-in_list g c =
     let below = place_below bytes r c.args.page.policy.accepted.checked (contains_found (nodes_of bytes) r.place r node) in
     omega (arith, below, c.requires.in_list)
 
-pub loop-rule-preserved-in-Continue-branch-2 : goal.loop-rule-preserved-in-Continue-branch-2
-loop-rule-preserved-in-Continue-branch-2 g c =
+pub loop-rule-preserved-then-has_place : goal.loop-rule-preserved-then-has_place
+loop-rule-preserved-then-has_place g c =
     let page = c.args.page in
     let ns = nodes_of (bytes_of page.policy) in
     let n = question_node c.args.question in
@@ -63,7 +58,7 @@ loop-rule-preserved-in-Continue-branch-2 g c =
     let known : c.has_place.result ≡ is_told ns n r =
     c.has_place.ensures ∙ c.in_ok-places.ensures c.place.result ∙ ap (λ (p : Policy). is_named (nodes_of (bytes_of p)) n c.place.result) c.policy.ensures ∙ ap (is_named ns n) c.place.ensures in
     record {
-      written = past_passing (rule_fact c.args.package_place) (is_told ns n) _ _ _ _ _ _ r c.in-Some.ensures.steps (sym known ∙ c.if-has_place.true) c.loop-rule.invariant.written c.in_ok-put_rule.ensures.told;
+      written = past_passing (rule_fact c.args.package_place) (is_told ns n) _ _ _ _ _ _ r c.in-Some.ensures.steps (sym known ∙ c.if-has_place.true) c.loop-rule.invariant.written c.put_rule.ensures;
       nodes = rest_of (bytes_of page.policy) _ _ _ c.in-Some.ensures.steps c.loop-rule.invariant.nodes;
     }
 

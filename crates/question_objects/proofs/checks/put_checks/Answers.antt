@@ -13,10 +13,9 @@ use Rattle.guard_policy.specs.code.Views.{bytes_of}
 use Rattle.guard_policy.proofs.OptionLemmas.{first_of, rest_of}
 use Rattle.question_audit.specs.code.Pages.{audited}
 use Rattle.question_audit.specs.ConditionFacts.{checks}
-use Rattle.question_audit.proofs.BeginningLemmas.{at_error}
 use Rattle.question_audit.proofs.InsideLemmas.{inside_are_nodes}
 use Rattle.question_objects.specs.Conditions.{check_item}
-use Rattle.question_objects.proofs.ListingLemmas.{first_left, item_next, listed_begun, none_left}
+use Rattle.question_objects.proofs.ListingLemmas.{first_left, item_next, none_left}
 use Rattle.question_objects.proofs.checks.put_checks.Goals as goal
 
 pub loop-check-init : goal.loop-check-init
@@ -40,12 +39,9 @@ put_check-requires g c =
 
 pub loop-check-preserved : goal.loop-check-preserved
 loop-check-preserved g c = record {
-  written = item_next (check_item (audited c.args.page) c.args.package_place) (condition_node c.in-Some.check) c.in-Some.ensures.steps c.loop-check.invariant.written c.in_ok-put_check.ensures.told;
+  written = item_next (check_item (audited c.args.page) c.args.package_place) (condition_node c.in-Some.check) c.in-Some.ensures.steps c.loop-check.invariant.written c.put_check.ensures;
   nodes = rest_of (bytes_of c.args.page.policy) _ _ _ c.in-Some.ensures.steps c.loop-check.invariant.nodes;
 }
 
-pub returns-in_err-put_check-clause-begun : goal.returns-in_err-put_check-clause-begun
-returns-in_err-put_check-clause-begun g c = at_error c.from_residual.result (rw c.in_err-put_check.ensures.nothing (listed_begun c.loop-check.invariant.written))
-
-pub returns-clause-told : goal.returns-clause-told
-returns-clause-told g c = none_left (check_item (audited c.args.page) c.args.package_place) c.in_default.ensures.steps.0 c.loop-check.invariant.written c.put_array_end.ensures
+pub returns : goal.returns
+returns g c = none_left (check_item (audited c.args.page) c.args.package_place) c.in_default.ensures.steps.0 c.loop-check.invariant.written c.put_array_end.ensures

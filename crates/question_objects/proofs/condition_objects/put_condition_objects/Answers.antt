@@ -52,8 +52,8 @@ put_guard_object-requires g c =
     let below = place_below bytes n c.args.page.policy.accepted.checked (contains_found (nodes_of bytes) n.place n (first_of bytes _ n _ e i.nodes)) in
     omega (arith, below, place, c.requires)
 
-pub loop-node-preserved-in_ok-put_guard_object : goal.loop-node-preserved-in_ok-put_guard_object
-loop-node-preserved-in_ok-put_guard_object g c =
+pub loop-node-preserved-in-Some-next : goal.loop-node-preserved-in-Some-next
+loop-node-preserved-in-Some-next g c =
     let a = audited c.args.page in
     let told : Node → List ℕ = condition_object a c.args.package_place in
     let n = node_of c.in-Some.node in
@@ -62,7 +62,7 @@ loop-node-preserved-in_ok-put_guard_object g c =
     let e = c.in-Some.ensures.some.0 in
     let is = sym c.is_guard.ensures ∙ c.if-is_guard.true in
     let found = met is_guard_node _ _ _ _ n (guard_node c.in-Some-next.guard) i.guards e is c.in-Some-next.ensures.steps in
-    let wrote = written_as c.in_ok-put_guard_object.ensures.told (of_guard a c.args.package_place n _ found.0 is) in
+    let wrote = written_as c.put_guard_object.ensures (of_guard a c.args.package_place n _ found.0 is) in
     record {
       text = past_piece _ _ _ _ _ (told n) (flat_map told rest) (ap (flat_map told) e) i.text wrote;
       guards = found.1;
@@ -109,8 +109,8 @@ put_rule_object-requires-clause-in_file g c =
     let below = place_below bytes n c.args.page.policy.accepted.checked (contains_found (nodes_of bytes) n.place n (first_of bytes _ n _ e i.nodes)) in
     omega (arith, below, place, c.requires)
 
-pub loop-node-preserved-in-Continue-branch-2 : goal.loop-node-preserved-in-Continue-branch-2
-loop-node-preserved-in-Continue-branch-2 g c =
+pub loop-node-preserved-in-Some-next-2 : goal.loop-node-preserved-in-Some-next-2
+loop-node-preserved-in-Some-next-2 g c =
     let a = audited c.args.page in
     let told : Node → List ℕ = condition_object a c.args.package_place in
     let n = node_of c.in-Some.node in
@@ -120,7 +120,7 @@ loop-node-preserved-in-Continue-branch-2 g c =
     let other = sym c.is_guard.ensures ∙ c.if-is_guard.false in
     let is = sym c.is_rule.ensures ∙ c.if-not-is_rule.false in
     let found = met is_rule _ _ _ _ n (rule_node c.in-Some-next-2.rule) i.rules e is c.in-Some-next-2.ensures.steps in
-    let wrote = written_as c.in_ok-put_rule_object.ensures.told (of_rule a c.args.package_place n _ found.0 other is) in
+    let wrote = written_as c.put_rule_object.ensures (of_rule a c.args.package_place n _ found.0 other is) in
     record {
       text = past_piece _ _ _ _ _ (told n) (flat_map told rest) (ap (flat_map told) e) i.text wrote;
       guards = passed_over is_guard_node _ _ rest n i.guards e other;

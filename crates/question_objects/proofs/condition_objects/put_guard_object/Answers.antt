@@ -8,7 +8,7 @@ use Rattle.question_objects.proofs.condition_objects.put_guard_object.Goals as g
 pub put_condition-requires : goal.put_condition-requires
 put_condition-requires g c = omega (arith, c.heading_of.ensures.package, c.heading_of.ensures.place, c.requires)
 
-pub returns-clause-told : goal.returns-clause-told
-returns-clause-told g c =
+pub returns : goal.returns
+returns g c =
     rw (c.opcode_name.ensures ∙ ap opcode_name c.code.ensures, c.heading_of.ensures.package, c.heading_of.ensures.state) at
-    (c.put_kind.ensures ⨾ (c.put_word.ensures ⨾ c.put_condition.ensures (guard_node c.args.guard) c.heading_of.ensures.place (words_over c.in_ok-text.ensures c.condition.ensures)) ⨾ c.end_object.ensures)
+    (c.put_kind.ensures ⨾ (c.put_word.ensures ⨾ c.put_condition.ensures (guard_node c.args.guard) c.heading_of.ensures.place (words_over c.of-text.ensures c.condition.ensures)) ⨾ c.end_object.ensures)

@@ -4,7 +4,7 @@ use Rattle.hii_bytes.proofs.WritingLemmas.{◌⨾◌}
 use Rattle.ifr_nodes.specs.Nodes.{nodes_of}
 use Rattle.ifr_index.specs.code.LockIndex.{first_place}
 use Rattle.question_audit.proofs.AroundLemmas.{same_forms}
-use Rattle.question_audit.proofs.BeginningLemmas.{at_error, begun_before, begun_behind}
+use Rattle.question_audit.proofs.BeginningLemmas.{at_error, begun_before}
 use Rattle.question_objects.proofs.form_sets.put_questions_objects.Goals as goal
 
 pub put_forms-requires-clause-known : goal.put_forms-requires-clause-known
@@ -21,7 +21,7 @@ pub returns-clause-written : goal.returns-clause-written
 returns-clause-written g c = (
   has_number c.in_ok-tables.tables.ways.reached,
   c.in_ok-tables.ensures.ways.reached,
-  c.in_ok-put_forms.ensures.told ⨾ c.in_ok-put_condition_objects.ensures.told,
+  c.in_ok-put_forms.ensures.told ⨾ c.put_condition_objects.ensures,
 )
 
 pub returns-in_err-put_forms-clause-begun : goal.returns-in_err-put_forms-clause-begun
@@ -30,12 +30,4 @@ returns-in_err-put_forms-clause-begun g c =
       has_number c.in_ok-tables.tables.ways.reached,
       c.in_ok-tables.ensures.ways.reached,
       begun_before _ c.in_err-put_forms.ensures.begun,
-    ))
-
-pub returns-in_err-put_condition_objects-clause-begun : goal.returns-in_err-put_condition_objects-clause-begun
-returns-in_err-put_condition_objects-clause-begun g c =
-    at_error c.from_residual-in_err-put_condition_objects.result (inr (
-      has_number c.in_ok-tables.tables.ways.reached,
-      c.in_ok-tables.ensures.ways.reached,
-      begun_behind c.in_ok-put_forms.ensures.told c.in_err-put_condition_objects.ensures.begun,
     ))

@@ -6,9 +6,8 @@ use Rattle.guard_policy.proofs.IndexedLemmas.{of_statement}
 use Rattle.question_audit.specs.code.Pages.{audited}
 use Rattle.question_audit.proofs.AroundLemmas.{guards_found, same_forms}
 use Rattle.question_audit.proofs.FlagLemmas.{guard_below}
-use Rattle.question_audit.proofs.BeginningLemmas.{at_error}
 use Rattle.question_objects.specs.Conditions.{guard_item}
-use Rattle.question_objects.proofs.ListingLemmas.{first_left, item_next, listed_begun, none_left}
+use Rattle.question_objects.proofs.ListingLemmas.{first_left, item_next, none_left}
 use Rattle.question_objects.proofs.guards.put_guards.Goals as goal
 
 pub loop-guard-init : goal.loop-guard-init
@@ -31,12 +30,9 @@ put_guard-requires g c =
 
 pub loop-guard-preserved : goal.loop-guard-preserved
 loop-guard-preserved g c = record {
-  written = item_next (guard_item c.args.detail (audited c.args.page) c.args.package_place) (guard_node c.in-Some.guard) c.in-Some.ensures.steps c.loop-guard.invariant.written c.in_ok-put_guard.ensures.told;
+  written = item_next (guard_item c.args.detail (audited c.args.page) c.args.package_place) (guard_node c.in-Some.guard) c.in-Some.ensures.steps c.loop-guard.invariant.written c.put_guard.ensures;
   own = c.in-Some.ensures.kept ∙ c.loop-guard.invariant.own;
 }
 
-pub returns-in_err-put_guard-clause-begun : goal.returns-in_err-put_guard-clause-begun
-returns-in_err-put_guard-clause-begun g c = at_error c.from_residual.result (rw c.in_err-put_guard.ensures.nothing (listed_begun c.loop-guard.invariant.written))
-
-pub returns-clause-told : goal.returns-clause-told
-returns-clause-told g c = none_left (guard_item c.args.detail (audited c.args.page) c.args.package_place) c.in_default.ensures.steps.0 c.loop-guard.invariant.written c.put_array_end.ensures
+pub returns : goal.returns
+returns g c = none_left (guard_item c.args.detail (audited c.args.page) c.args.package_place) c.in_default.ensures.steps.0 c.loop-guard.invariant.written c.put_array_end.ensures

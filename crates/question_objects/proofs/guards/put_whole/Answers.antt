@@ -7,7 +7,7 @@ use Rattle.question_objects.proofs.guards.put_whole.Goals as goal
 pub put_named-requires : goal.put_named-requires
 put_named-requires g c = omega (arith, c.heading_of.ensures.package, c.heading_of.ensures.place, c.requires)
 
-pub returns-clause-told : goal.returns-clause-told
-returns-clause-told g c =
+pub returns : goal.returns
+returns g c =
     rw (c.heading_of.ensures.package, c.heading_of.ensures.state) at
-    (c.put_before_item.ensures ⨾ (c.put.ensures ⨾ c.put_named.ensures (guard_node c.args.guard) c.heading_of.ensures.place c.heading_of.ensures.code (words_over c.in_ok-text.ensures c.condition.ensures) ⨾ c.put-2.ensures))
+    (c.put_before_item.ensures ⨾ (c.put.ensures ⨾ c.put_named.ensures (guard_node c.args.guard) c.heading_of.ensures.place c.heading_of.ensures.code (words_over c.of-text.ensures c.condition.ensures) ⨾ c.put-2.ensures))

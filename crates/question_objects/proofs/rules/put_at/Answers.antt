@@ -13,9 +13,8 @@ use Rattle.ifr_scopes.specs.code.Lists.{rule_node}
 use Rattle.guard_policy.specs.code.Views.{bytes_of}
 use Rattle.guard_policy.proofs.OptionLemmas.{first_of, rest_of}
 use Rattle.question_audit.specs.RuleFacts.{is_named}
-use Rattle.question_audit.proofs.BeginningLemmas.{at_error}
 use Rattle.question_objects.specs.Conditions.{rule_item}
-use Rattle.question_objects.proofs.ListingLemmas.{failing_next, first_left, listed_begun, none_left, passing_next}
+use Rattle.question_objects.proofs.ListingLemmas.{failing_next, first_left, none_left, passing_next}
 use Rattle.question_objects.proofs.rules.put_at.Goals as goal
 
 abbrev is_told : List Node → Node → Node → Bool
@@ -52,7 +51,7 @@ loop-rule-preserved g c =
     record {
       written = λ n told.
           let known = c.has_place.ensures ∙ told c.place.result ∙ ap (is_named ns n) c.place.ensures in
-          passing_next (rule_item c.args.package_place) (is_told ns n) r c.in-Some.ensures.steps (sym known ∙ c.if-not-has_place.false) (i.written n told) c.in_ok-put_rule.ensures.told;
+          passing_next (rule_item c.args.package_place) (is_told ns n) r c.in-Some.ensures.steps (sym known ∙ c.if-not-has_place.false) (i.written n told) c.put_rule.ensures;
       nodes = rest_of (bytes_of c.args.policy) _ _ _ c.in-Some.ensures.steps i.nodes;
     }
 
@@ -68,10 +67,7 @@ loop-rule-preserved-then-not-has_place g c =
       nodes = rest_of (bytes_of c.args.policy) _ _ _ c.in-Some.ensures.steps i.nodes;
     }
 
-pub returns-in_err-put_rule-clause-begun : goal.returns-in_err-put_rule-clause-begun
-returns-in_err-put_rule-clause-begun g c = at_error c.from_residual.result (λ n told. rw c.in_err-put_rule.ensures.nothing (listed_begun (c.loop-rule.invariant.written n told)))
-
-pub returns-clause-told : goal.returns-clause-told
-returns-clause-told g c = λ n told.
+pub returns : goal.returns
+returns g c = λ n told.
     let ns = nodes_of (bytes_of c.args.policy) in
     none_left (rule_item c.args.package_place) (ap (filter (is_told ns n)) c.in_default.ensures.steps.0) (c.loop-rule.invariant.written n told) c.put_array_end.ensures
