@@ -32,8 +32,8 @@ use std::alloc::{AllocError, Global};
 use std::collections::BTreeSet;
 use std::io::Write;
 
-// Whether a name is that of the question of an id, or of a rule that leads to it, where these are the places of the rules that do. It
-// stands in the scope of the question of another id, or of 0 for none.
+// Whether a name is that of the question of an id, or of a rule that leads to it, where these are the places of the
+// rules that do. It stands in the scope of the question of another id, or of 0 for none.
 fn is_leading(forms: &Forms<'_>, rules: &BTreeSet<u32>, name: Name, this: u16, id: u16) -> bool
     ensures { result ≡ leads (nodes_of forms.now) (has_place rules.now) this id name }
 {
@@ -67,7 +67,8 @@ fn leads<'a>(
     false
 }
 
-// The places of the rules whose values depend on the answer to the question of an id. A rule names only rules that end before it does.
+// The places of the rules whose values depend on the answer to the question of an id. A rule names only rules that end
+// before it does.
 fn leading_rules(alloc: Global, forms: &Forms<'_>, id: u16) -> Result<BTreeSet<u32>, AllocError>
     ensures { IfOk result (λ places. AreLeading (nodes_of forms.now) id (has_place places)) }
 {

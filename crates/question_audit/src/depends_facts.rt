@@ -38,7 +38,8 @@ use std::alloc::{AllocError, Global};
 use std::collections::BTreeSet;
 use std::io::Write;
 
-// The id of the question that a name names by itself, where it stands in the scope of the question of an id, or of 0 for none.
+// The id of the question that a name names by itself, where it stands in the scope of the question of an id, or of 0
+// for none.
 #[tactic(auto, unfolding(ifr_expr::specs::Dependence::rule_ids))]
 fn id_of(name: Name, this: u16) -> Option<u16>
     ensures { option_to_list result ≡ ids_by [] this name }

@@ -33,8 +33,8 @@ use std::alloc::{AllocError, Global};
 use std::collections::BTreeSet;
 use std::io::Write;
 
-/// Adds the places of the rules that an expression names, and of those that these name in turn. A rule whose place is there is not looked
-/// at again.
+/// Adds the places of the rules that an expression names, and of those that these name in turn. A rule whose place is
+/// there is not looked at again.
 pub(crate) fn add_named<'a>(
     alloc: Global,
     forms: &Forms<'a>,
