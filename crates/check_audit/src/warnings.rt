@@ -34,8 +34,8 @@ pub(crate) struct Found {
     pub settled: Constants,
 }
 
-// What is found by the tables of a form set: its warnings but those of conditions that name no question, by which side of these
-// they stand on.
+// What is found by the tables of a form set: its warnings but those of conditions that name no question, in front of
+// these and behind them.
 #[derive(Drop)]
 struct Tabled {
     front: Vec<Warning>,
@@ -74,9 +74,9 @@ fn read_tables<'a>(
     })
 }
 
-/// The warnings of a form set, by place, then word, then id, where the first string package says this, and further ones lack this.
-/// The tables of the form set are given back as soon as they were looked at, so that the warnings take no more room than these; and
-/// conditions are put in words at last.
+/// The warnings of a form set, by place, then word, then id, where the first string package says this, and further ones
+/// lack this. The tables of the form set are given back as soon as they were looked at, so that the warnings take no more
+/// room than these; and conditions are put in words at last.
 pub(crate) fn warnings_of<'a>(
     alloc: Global,
     strings: &FirstStrings<'_>,
