@@ -328,6 +328,16 @@ def _(part):
     return of_opening(over(width + 1, text, nested(part(GUARDS), boxes, eq_id_val(count + 1, 7))), b"a\0" * (width // 2) + b"\0")
 
 
+@product("audit: conditions x a rule", among=AUDITED)
+def _(part):
+    return of_opening(*with_a_rule(part, checkbox(1, 0), suppressed(rule_ref(1)) * part(16000)))
+
+
+@product("audit: INCONSISTENT_IFs x a rule", among=AUDITED)
+def _(part):
+    return of_opening(*in_a_question(part, scoped(opcode(0x11, u16(0)), rule_ref(1))))
+
+
 @product("audit: options x guards", among=AUDITED)
 def _(part):
     options = b"".join(option(5, number, NUMBER_4) for number in range(part(16000)))
