@@ -29,9 +29,9 @@ use ifr_scopes::{AnyCondition, ConditionOp, ConditionView, Forms, Guard, Stateme
 use std::alloc::{AllocError, Global};
 use std::io::Write;
 
-/// Of how many rules the values are kept while conditions are told: so few that they take little memory beside what a
-/// session does.
-const KEPT_RULES: usize = 4096;
+/// Of how many rules something is kept while conditions are told: so few that it takes little memory beside what a session
+/// does.
+pub(crate) const KEPT_RULES: usize = 4096;
 
 /// Room for the values of the first rules of a package, of which none is known.
 pub fn rule_values(alloc: Global, forms: &Forms<'_>) -> Result<RuleValues, AllocError>

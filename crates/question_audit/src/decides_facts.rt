@@ -14,9 +14,10 @@ ghost use Rattle.guard_policy.specs.code.Views.{bytes_of};
 ghost use Rattle.question_audit.specs.code.Pages.{audited};
 ghost use Rattle.question_audit.specs.Dependences.{all_decides_facts, decided_by, decides_fact, is_decided_by, when_text};
 ghost use Rattle.question_audit.specs.code.Leading.{AreLeading, leads};
-ghost use Rattle.question_audit.specs.code.Naming.{counts, naming};
+ghost use Rattle.question_audit.specs.code.Naming.{counts, names, naming};
 ghost use Rattle.question_audit.specs.code.Places.{has_place};
 
+use crate::condition_facts::KEPT_RULES;
 use crate::facts::put_column;
 use crate::guard_table::flag_of;
 use crate::places::{add_place, has_place};
@@ -84,10 +85,38 @@ fn leading_rules(alloc: Global, forms: &Forms<'_>, id: u16) -> Result<BTreeSet<u
     Ok(places)
 }
 
+// Whether the condition of a guard depends on the answer to the question of an id.
+fn names<'a>(forms: &Forms<'a>, guard: Guard<'a>, id: u16) -> bool
+    ensures { result ≡ names (nodes_of forms.now) id (guard_node guard.entry) }
+{
+    let mut ids = forms.dependence(guard.condition(), guard.this());
+    while let Some(named) = ids.next() {
+        if named == id {
+            return true;
+        }
+    }
+    false
+}
+
+// What `guards_naming` tells, with nothing kept of rules.
+fn guards_asked(alloc: Global, forms: &Forms<'_>, id: u16) -> Result<Vec<bool>, AllocError>
+    ensures { IfOk result (λ flags. flags.items ≡ naming (nodes_of forms.now) id) }
+{
+    let mut flags = Vec::with_capacity(alloc, forms.guard_count())?;
+    let mut guards = forms.guards();
+    while let Some(guard) = guards.next() {
+        flags.push(names(forms, guard, id))?;
+    }
+    Ok(flags)
+}
+
 /// Of each guard of a package, by place, whether its condition depends on the answer to the question of an id.
 pub fn guards_naming(alloc: Global, forms: &Forms<'_>, id: u16) -> Result<Vec<bool>, AllocError>
     ensures { IfOk result (λ flags. flags.items ≡ naming (nodes_of forms.now) id) }
 {
+    if forms.rule_count() > KEPT_RULES {
+        return guards_asked(alloc, forms, id);
+    }
     let mut flags = Vec::with_capacity(alloc, forms.guard_count())?;
     let rules = leading_rules(alloc, forms, id)?;
     let mut guards = forms.guards();
