@@ -72,6 +72,7 @@ impl<'a, 's> Policy<'a, 's> {
     }
 
     /// The question that a statement of the package is, if it is one.
+    #[inline(always)]
     pub fn question(&self, statement: Statement<'a>) -> Option<Question<'a>>
         requires { IsNodeOf self.now.forms.now (statement_node statement) }
         ensures { option_map question_view result

@@ -82,7 +82,7 @@ impl<'a, 's> Policy<'a, 's> {
     }
 
     // The first of some conditions that holds, by values of rules over these stores.
-    #[inline(never)]
+    #[inline(always)]
     fn first_holding_by(
         &self,
         mut conditions: ConditionsOf<'_, 'a>,
