@@ -1,5 +1,11 @@
 //! Where a field lies, as the code tells it.
 
+// How many numbers each store has in a numbering of the bytes of all stores: an offset, and a width of at most `MOST_WIDE` bytes.
+const STORE_NUMBERS: u64 = 131_072;
+
+// How many bytes of a field are numbered: no store has more.
+const MOST_WIDE: usize = 65_536;
+
 /// Where the field of a question lies. Fields follow one another by store, offset and width.
 #[derive(Clone, Copy, PartialEq, Eq, PartialOrd, Ord)]
 pub struct FieldRange {
@@ -23,14 +29,14 @@ impl FieldRange {
         // An offset has two bytes.
         ensures small { self.offset < 65536 }
     {
-        u64::from(self.store) * 131_072 + u64::from(self.offset)
+        u64::from(self.store) * STORE_NUMBERS + u64::from(self.offset)
     }
 
     /// The number behind that of its last byte. What reaches further than a store may is cut off.
     pub fn behind(self) -> u64
         ensures { result ≡ behind_of self }
     {
-        self.first() + self.width.min(65_536) as u64
+        self.first() + self.width.min(MOST_WIDE) as u64
     }
 
     /// Whether two fields have a byte in common.

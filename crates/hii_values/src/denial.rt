@@ -16,7 +16,7 @@ pub enum DenialKind {
     Locked,
     /// The question has the flag READ_ONLY.
     ReadOnly,
-    /// The question has no field in a store.
+    /// The question has no field in a store, and is no reference that leads to a form, or it is one that leads to none.
     Outside,
     /// The question takes no input of this kind: a number, a text or a list.
     Kind,
@@ -48,11 +48,11 @@ pub enum DenialKind {
     NoBack,
     /// So many forms were left by references as are kept.
     DeepHistory,
-    /// No store has the name.
+    /// No store has the GUID, name and path.
     NoStore,
-    /// No question has the field.
+    /// No question has the field; of a text that is to be extracted, a block leaves its store.
     NoField,
-    /// The field is that of a password.
+    /// The field is that of a password; of a text that is to be extracted, a block meets one.
     Password,
 }
 
