@@ -24,10 +24,18 @@ use kept_conditions::KeptStores;
 // Up to how many bytes a field has so few elements that each is looked for by itself: what is kept for many would take longer.
 const NARROW: usize = 8;
 
-/// Gives a question a value, or tells why it may not have it. The working stores then hold what they held, or new bytes in the
-/// question's field. The spare stores, which hold what the working ones do, follow.
+/// Of a `set`: a number is given.
+pub(crate) struct OfNumbers;
+/// Of an `order` or a `text`: bytes are given.
+pub(crate) struct OfBytes;
+/// Of `defaults` or a button: defaults are given.
+pub(crate) struct OfDefaults;
+
+/// Gives a question a value, or tells why it may not have it. The working stores then hold what they held, or new bytes in
+/// the question's field. The spare stores, which hold what the working ones do, follow. For each kind of what is given
+/// there is a copy of this, called from one place, so that it is inlined there.
 #[inline(always)]
-pub(crate) fn give_value<'a>(
+pub(crate) fn give_value<'a, Given>(
     policy: Policy<'a, '_>,
     question: Question<'a>,
     input: Input<'_>,

@@ -13,6 +13,7 @@ ghost use Rattle.session_steps.specs.Step.{step, step_line, denied};
 ghost use Rattle.browser_commands.specs.code.Standing.{answered};
 
 use crate::browser::Browser;
+use crate::change::OfNumbers;
 use crate::texts::{put_denial, put_done, put_refusal};
 use guard_policy::Denial;
 use hii_bytes::{Cause, Watched};
@@ -33,7 +34,9 @@ impl<'a> Browser<'a> {
         self.count_anew();
         match command {
             // What scripts say most takes no further call.
-            Command::Set { question, value } => self.set(question, Input::Number(value), out),
+            Command::Set { question, value } => {
+                self.set::<OfNumbers, W>(question, Input::Number(value), out)
+            }
             Command::Why(question) => self.answer(self.why(question), out),
             other => self.obey(other, out),
         }

@@ -19,7 +19,7 @@ ghost use Rattle.session_steps.specs.Step.{taken, take_defaults as defaults_take
 ghost use Rattle.browser_commands.specs.code.Standing.{Presses, IsOffered};
 
 use crate::browser::Browser;
-use crate::change::give_value;
+use crate::change::{OfDefaults, give_value};
 use crate::sources::Sources;
 use crate::texts::put_count;
 use guard_policy::{Denial, Policy};
@@ -125,7 +125,7 @@ impl<'a, 's> Sources<'a, 's> {
         let Some(input) = self.given_by(source, question, working.stores()) else {
             return false;
         };
-        match give_value(self.policy, question, input, working, spare) {
+        match give_value::<OfDefaults>(self.policy, question, input, working, spare) {
             Ok(()) => true,
             Err(_) => false,
         }

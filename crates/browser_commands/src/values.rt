@@ -19,7 +19,7 @@ ghost use Rattle.browser_commands.specs.code.Standing.{IsQuestionIn, Finds, Chan
 ghost use Rattle.session_steps.specs.Opening.{layout_in, IsBrowsable};
 
 use crate::browser::Browser;
-use crate::change::give_value;
+use crate::change::{OfBytes, give_value};
 use crate::texts::{put_done, put_warnings};
 use guard_policy::{Denial, Policy};
 use hii_bytes::Watched;
@@ -74,7 +74,12 @@ impl<'a> Browser<'a> {
 
     // Sets the question of an id to a value and writes of what it warns, or writes why it is denied.
     #[inline(always)]
-    pub(crate) fn set<W: Write>(&mut self, id: u16, input: Input<'_>, out: &mut Watched<W>) -> Reply
+    pub(crate) fn set<Given, W: Write>(
+        &mut self,
+        id: u16,
+        input: Input<'_>,
+        out: &mut Watched<W>,
+    ) -> Reply
         requires { IsOffered input }
         ensures state { self.new.state
             ≡ (set_question self.old.state (question_with (nodes_of self.old.state.ifr) id)
@@ -89,7 +94,7 @@ impl<'a> Browser<'a> {
             (nodes_of self.old.state.ifr) (field_writes (nodes_of self.old.state.ifr)
             (named_if (question_with (nodes_of self.old.state.ifr) id) result)) }
     {
-        match self.set_named(id, input, out) {
+        match self.set_named::<Given, W>(id, input, out) {
             Ok(()) => Reply::Accepted,
             Err(denial) => self.deny(denial, out),
         }
@@ -117,12 +122,12 @@ impl<'a> Browser<'a> {
             (nodes_of self.old.state.ifr) (field_writes (nodes_of self.old.state.ifr)
             (named_if (question_with (nodes_of self.old.state.ifr) id) result)) }
     {
-        self.set(id, input, out)
+        self.set::<OfBytes, W>(id, input, out)
     }
 
     // Sets the question of an id to a value and writes of what it warns, or tells why it may not have it.
     #[inline(always)]
-    fn set_named<W: Write>(
+    fn set_named<Given, W: Write>(
         &mut self,
         id: u16,
         input: Input<'_>,
@@ -136,12 +141,12 @@ impl<'a> Browser<'a> {
             (offer_of input.entry)) result) }
     {
         let question = self.find(id)?;
-        self.set_question(question, input, out)
+        self.set_question::<Given, W>(question, input, out)
     }
 
     // Sets a question to a value and writes of what it warns then, or tells why it may not have it.
     #[inline(always)]
-    fn set_question<W: Write>(
+    fn set_question<Given, W: Write>(
         &mut self,
         question: Question<'a>,
         input: Input<'_>,
@@ -158,7 +163,7 @@ impl<'a> Browser<'a> {
         self.is_written = true;
         self.submission = None;
         let policy = Policy::new(&self.forms, &self.questions, &self.removed);
-        give_value(policy, question, input, &mut self.working, &mut self.spare)?;
+        give_value::<Given>(policy, question, input, &mut self.working, &mut self.spare)?;
         put_done(out);
         put_warnings(
             policy,

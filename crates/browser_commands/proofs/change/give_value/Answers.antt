@@ -19,7 +19,7 @@ use Rattle.browser_commands.proofs.SetLemmas.{fixed_question, lies_in, over_worl
 use Rattle.browser_commands.proofs.change.give_value.Goals as goal
 
 pub returns-in_err-around-clause-gives : goal.returns-in_err-around-clause-gives
-returns-in_err-around-clause-gives c =
+returns-in_err-around-clause-gives g c =
     let n = question_node c.args.question in
     let denial = c.in_err-around.field-0.0 in
     let p = err_from_is_err_and c.from_residual.result c.from_residual.ensures.1 in
@@ -32,12 +32,12 @@ returns-in_err-around-clause-gives c =
 
 -- the field of the question lies in the spare stores
 pub held_in-old-requires : goal.held_in-old-requires
-held_in-old-requires c =
+held_in-old-requires g c =
     let q = question_view c.args.question in
     subst (λ (sh : Shape). LiesIn sh q) (sym (ap shape_of c.requires.same ∙ c.requires.browsed.laid)) (lies_in (bytes_of c.args.policy) q c.requires.browsed.browsable c.requires.question)
 
 pub set_value-requires-clause-free : goal.set_value-requires-clause-free
-set_value-requires-clause-free c = record {
+set_value-requires-clause-free g c = record {
   browsed = c.requires.browsed;
   question = c.requires.question;
   around = c.in_ok-around.ensures.around;
@@ -45,31 +45,31 @@ set_value-requires-clause-free c = record {
 }
 
 pub set_value-requires-clause-held : goal.set_value-requires-clause-held
-set_value-requires-clause-held c = subst (λ (m : StoreMap). GoesBack m (question_view c.args.question) c.held_in-old.result.now) c.requires.same c.held_in-old.ensures
+set_value-requires-clause-held g c = subst (λ (m : StoreMap). GoesBack m (question_view c.args.question) c.held_in-old.result.now) c.requires.same c.held_in-old.ensures
 
 pub set_value-requires-clause-input : goal.set_value-requires-clause-input
-set_value-requires-clause-input c = c.requires.input (question_view c.args.question).field
+set_value-requires-clause-input g c = c.requires.input (question_view c.args.question).field
 
 pub put-requires : goal.put-requires
-put-requires c =
+put-requires g c =
     let field = c.in_ok-field.field in
     subst (λ (sh : Shape). HasRange sh field.store field.offset field.width) (ap shape_of (sym c.requires.same)) c.in_ok-field.ensures.4
 
 pub returns-in_err-field-clause-gives : goal.returns-in_err-field-clause-gives
-returns-in_err-field-clause-gives c =
+returns-in_err-field-clause-gives g c =
     let p = err_from_is_err_and c.from_residual-in_err-field.result c.from_residual-in_err-field.ensures.1 in
     rw (p.1, p.2) (sets_free c.args.policy (question_view c.args.question) (offer_of c.args.input) c.args.working.now c.set_value.new.working (Err c.in_err-field.field-0.0) (none_of _ (sym c.in_ok-around.ensures.answer)) c.in_err-field.ensures)
 
 pub returns-in_err-field-clause-same : goal.returns-in_err-field-clause-same
-returns-in_err-field-clause-same c = c.requires.same ∙ sym (ap (λ (m : KeptMap). m.stores) c.in_err-field.ensures.0)
+returns-in_err-field-clause-same g c = c.requires.same ∙ sym (ap (λ (m : KeptMap). m.stores) c.in_err-field.ensures.0)
 
 pub returns-clause-gives : goal.returns-clause-gives
-returns-clause-gives c = (
+returns-clause-gives g c = (
   c.in_ok-field.field,
   sets_free c.args.policy (question_view c.args.question) (offer_of c.args.input) c.args.working.now c.set_value.new.working (Ok c.in_ok-field.field) (none_of _ (sym c.in_ok-around.ensures.answer)) c.in_ok-field.ensures,
 )
 
 pub returns-clause-same : goal.returns-clause-same
-returns-clause-same c =
+returns-clause-same g c =
     let field = c.in_ok-field.field in
     c.put.ensures.written ∙ ap (λ (m : StoreMap). with_bytes m field.store field.offset (new_bytes field)) c.requires.same ∙ sym (ap (λ (m : KeptMap). m.stores) c.in_ok-field.ensures.0)
