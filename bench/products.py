@@ -11,16 +11,17 @@ from packages import *
 # What a product is made of (string packages, opcodes, stores), what is run before the lines that are counted, these, and how the answers end. Where one part is gone through
 # for each of the other, `steps` tells how often: what is counted may then grow as they do.
 Product = namedtuple("Product", "texts opcodes held before lines ends steps")
-# What makes a product of its parts, and how many instructions each of its steps takes at most; or of an audit, by the command, each byte
-# that is given or told: where rows tell of each guard around them, what is told grows as rows x guards, and what is counted may then grow
-# as it does.
+# What makes a product of its parts, and how many instructions each of its steps takes at most; or of an audit, by the command, each step or
+# each byte that is given or told: where rows tell of each guard around them, what is told grows as rows x guards, and what is counted may
+# then grow as it does.
 Made = namedtuple("Made", "make each")
+BYTE, STEP = "byte given or told", "step"
 # What is run by setup, and over what the commands of the second program go.
 PRODUCTS, AUDITED = {}, {}
 
 WIDE, ELEMENTS, GIVEN, GUARDS, BLOCKS, DOUBLED = 64000, 255, 122, 60, 150, 1024
-# As many steps as a guard that is asked takes the rest of a line.
-LINE = 20
+# As many steps as guards that are asked take the rest of a line, and the rest of what an audit tells of a question or an option.
+LINE, REST = 20, 10
 NOT, EQUAL, OR = operator(0x17), operator(0x2F), operator(0x16)
 HEADER = b"route GUID=%s&NAME=0056&PATH=" % VARSTORE_GUID.hex().encode()
 
@@ -314,18 +315,20 @@ def _(part):
 
 # ---- audits: of the question 1, and of all
 
-@product("audit: questions x guards that name a rule", {"report": 105}, AUDITED)
+@product("audit: questions x guards that name a rule", {"report": (BYTE, 105)}, AUDITED)
 def _(part):
     boxes = b"".join(checkbox(number, 0) for number in range(1, part(4000) + 1))
     return of_opening(*with_a_rule(part, nested(part(GUARDS), boxes, rule_ref(1))))
 
 
-@product("audit: questions x guards over a wide text", {"questions": 64, "report": 72}, AUDITED)
+# The guards around each question are gone through for whether it depends on the question 1.
+@product("audit: questions x guards over a wide text", {"questions": (BYTE, 64), "report": (BYTE, 72), "question": (STEP, 260)}, AUDITED)
 def _(part):
     count, width = part(4000), part(WIDE // 2) * 2
     boxes = b"".join(checkbox(number, width) for number in range(1, count + 1))
     text = password(count + 1, 0, 0, width // 2)
-    return of_opening(over(width + 1, text, nested(part(GUARDS), boxes, eq_id_val(count + 1, 7))), b"a\0" * (width // 2) + b"\0")
+    opcodes = over(width + 1, text, nested(part(GUARDS), boxes, eq_id_val(count + 1, 7)))
+    return of_opening(opcodes, b"a\0" * (width // 2) + b"\0", count * (part(GUARDS) + REST))
 
 
 @product("audit: conditions x a rule", among=AUDITED)
@@ -338,10 +341,12 @@ def _(part):
     return of_opening(*in_a_question(part, scoped(opcode(0x11, u16(0)), rule_ref(1))))
 
 
-@product("audit: options x guards", among=AUDITED)
+# The guards around each option are gone through for what denies it.
+@product("audit: options x guards", {"question": (STEP, 650), "report": (STEP, 650)}, AUDITED)
 def _(part):
-    options = b"".join(option(5, number, NUMBER_4) for number in range(part(16000)))
-    return of_opening(over(4, scoped(one_of(1, 0, 4), nested(part(GUARDS), options))), bytes(4))
+    count = part(16000)
+    options = b"".join(option(5, number, NUMBER_4) for number in range(count))
+    return of_opening(over(4, scoped(one_of(1, 0, 4), nested(part(GUARDS), options))), bytes(4), count * (part(GUARDS) + REST))
 
 
 @product("audit: LOCKEDs x questions", among=AUDITED)
