@@ -3,12 +3,9 @@ use Rattle.std.proofs.Common.{◌≡◌, ℕ, suc, ◌+◌, ◌≤◌, ◌<◌, 
 use Rattle.std.specs.List.{cons_option, filter_map}
 use Rattle.std.proofs.lemmas.Bool.{cases_Bool}
 use Rattle.ifr_opcodes.specs.Forest.{Node}
-use Rattle.ifr_opcodes.specs.Opcode.{number}
 use Rattle.ifr_nodes.specs.Checked.{IsChecked}
-use Rattle.ifr_nodes.specs.Guards.{guards_among, is_guard}
 use Rattle.ifr_nodes.specs.Nodes.{is_statement, nodes_of}
 use Rattle.ifr_nodes.proofs.WalkLemmas.{at_first, few_left}
-use Rattle.check_audit.specs.Constants.{constant_guards, is_constant}
 use Rattle.check_audit.specs.Warnings.{crossed_of, crossed_spans}
 use Rattle.check_audit.specs.declared.warning.Span.{Span}
 
@@ -44,7 +41,7 @@ few_mapped : {X : Type 0} (f : Node → Option X) (ns : List Node) → length (f
 few_mapped f [] = omega arith
 few_mapped f (n ∷ ns) = one_more (f n) (filter_map f ns) ns (few_mapped f ns)
 
--- the bounds of a package that nothing can meet, as far as they were found, and the guards whose conditions name no question
+-- the bounds of a package that nothing can meet, as far as they were found
 pub few_spans : (bytes : List ℕ) (front rest : List Span) → IsChecked bytes → front ++ rest ≡ crossed_spans (nodes_of bytes) → length front < 2 ^ 32
 few_spans bytes front rest checked same =
     let ns = nodes_of bytes in
@@ -52,11 +49,3 @@ few_spans bytes front rest checked same =
     let some = few_of is_statement ns in
     let nodes = few_nodes bytes checked in
     omega (arith, all, some, nodes)
-
-pub few_constants : (bytes : List ℕ) → IsChecked bytes → length (constant_guards (nodes_of bytes)) < 2 ^ 32
-few_constants bytes checked =
-    let ns = nodes_of bytes in
-    let guards = few_of (is_constant ns) (guards_among ns) in
-    let some = few_of (λ (n : Node). is_guard (number n.op)) ns in
-    let nodes = few_nodes bytes checked in
-    omega (arith, guards, some, nodes)

@@ -1,10 +1,11 @@
 pub mod CheckLemmas
 pub mod CountLemmas
+pub mod EachLemmas
 mod LackLemmas
 mod RefusalLemmas
 mod SeenLemmas
 mod SessionLemmas
-mod SettledLemmas
+mod StandingLemmas
 mod TextlessLemmas
 mod WarningCases
 mod WarningLemmas

@@ -19,7 +19,6 @@ use Rattle.audit_json.specs.declared.telling.Telling.{Telling}
 use Rattle.dump_audit.specs.Contents.{begins_with_form_set, opcodes_of}
 use Rattle.opcode_audit.specs.Words.{name_or_number}
 use Rattle.check_audit.specs.Behind.{opcode_at, seen_before}
-use Rattle.check_audit.specs.Constants.{constants}
 use Rattle.check_audit.specs.Lacks.{Lack}
 use Rattle.check_audit.specs.Mostly.{mostly_at, mostly_of}
 use Rattle.check_audit.specs.WarningLines.{warnings_told}
@@ -185,7 +184,7 @@ good_told telling counts = told_as telling (good_line counts) (good_object count
 abbrev pub warned_told : Setting → List ℕ → Good → List ℕ
 warned_told s ifr good =
     good_told s.telling good.counts
-    ++ warnings_told s.telling record { spans = crossed_spans (nodes_of ifr); settled = constants (nodes_of ifr); lacks = s.lacks } good.warnings.items
+    ++ warnings_told s.telling record { spans = crossed_spans (nodes_of ifr); nodes = nodes_of ifr; lacks = s.lacks } good.warnings.items
 
 -- what is found of a forms package
 abbrev pub verdict_told : Setting → List ℕ → Verdict → List ℕ

@@ -2,6 +2,11 @@
 use Rattle.std.specs.Prelude.{ℕ, Bool, ◌==◌, if◌then◌else◌, Option, Some, None, false, List, [], ◌++◌, ◌∷◌, codes, decimal, slice_get}
 use Rattle.std.specs.Fmt.{signed_decimal}
 use Rattle.hii_bytes.specs.Texts.{place_text}
+use Rattle.ifr_opcodes.specs.Forest.{Node, node_at}
+use Rattle.ifr_opcodes.specs.Opcode.{number}
+use Rattle.ifr_nodes.specs.NodeExpressions.{expression_tree}
+use Rattle.condition_text.specs.Senses.{sense}
+use Rattle.condition_text.specs.Texts.{text}
 use Rattle.hii_values.specs.Denials.{kind_name}
 use Rattle.hii_values.specs.declared.denial.DenialKind.{DenialKind}
 use Rattle.audit_text.specs.Texts.{language_name}
@@ -9,7 +14,6 @@ use Rattle.audit_text.specs.Words.{opcode_name}
 use Rattle.audit_json.specs.Objects.{member, number_member, object, text_member, true_member, word_member}
 use Rattle.audit_json.specs.Telling.{told_as}
 use Rattle.audit_json.specs.declared.telling.Telling.{Telling}
-use Rattle.check_audit.specs.Constants.{Settled}
 use Rattle.check_audit.specs.Lacks.{Lack}
 use Rattle.check_audit.specs.Warnings.{order_of}
 use Rattle.check_audit.specs.declared.warning.Oddity.{Oddity}
@@ -20,17 +24,17 @@ use Rattle.check_audit.specs.declared.warning.Span.{Span}
 use Rattle.check_audit.specs.declared.warning.Unanswered.{Unanswered}
 use Rattle.check_audit.specs.declared.warning.Warning.{Warning}
 
--- what warnings tell by a number: the bounds that nothing can meet, the guards whose conditions name no question, and the string
--- packages that lack texts
+-- what warnings tell by a number: the bounds that nothing can meet, and the string packages that lack texts; and by their
+-- place: the nodes of the package
 pub record Details : Type 0 where
   pub spans : List Span
-  pub settled : List Settled
+  pub nodes : List Node
   pub lacks : List Lack
 
 abbrev pub word_of : Oddity → List ℕ
 word_of (Asks unanswered) = codes "asks"
 word_of (Bounds n) = codes "bounds"
-word_of (Constant n) = codes "constant"
+word_of (Constant holds) = codes "constant"
 word_of (Default refused) = codes "default"
 word_of (Language n) = codes "language"
 word_of (Overlap sharing) = codes "overlap"
@@ -53,10 +57,10 @@ bounds_text (Some span) = signed_decimal span.minimum ++ codes " is above " ++ s
 abbrev pub verdict_word : Bool → List ℕ
 verdict_word holds = if holds then codes " holds: " else codes " does not hold: "
 
--- of the guards whose conditions name no question one by its number
-abbrev pub constant_text : Option Settled → List ℕ
-constant_text None = []
-constant_text (Some s) = opcode_name s.code ++ verdict_word s.holds ++ s.words
+-- of the guard at the place, whose condition names no question
+abbrev pub constant_text : Bool → Option Node → List ℕ
+constant_text holds None = []
+constant_text holds (Some g) = opcode_name (number g.op) ++ verdict_word holds ++ text (sense (expression_tree g))
 
 abbrev pub denial_word : Option DenialKind → List ℕ
 denial_word None = codes "no text"
@@ -83,19 +87,19 @@ textless_text id = decimal id ++ codes ": no text"
 abbrev pub unreached_text : ℕ → List ℕ
 unreached_text form = codes "no reference names form " ++ decimal form
 
-abbrev pub oddity_text : Details → Oddity → List ℕ
-oddity_text d (Asks unanswered) = asks_text unanswered
-oddity_text d (Bounds n) = bounds_text (slice_get d.spans n)
-oddity_text d (Constant n) = constant_text (slice_get d.settled n)
-oddity_text d (Default refused) = default_text refused
-oddity_text d (Language n) = lack_text (slice_get d.lacks n)
-oddity_text d (Overlap sharing) = overlap_text sharing
-oddity_text d (Text id) = textless_text id
-oddity_text d (Unreached form) = unreached_text form
+abbrev pub oddity_text : Details → ℕ → Oddity → List ℕ
+oddity_text d place (Asks unanswered) = asks_text unanswered
+oddity_text d place (Bounds n) = bounds_text (slice_get d.spans n)
+oddity_text d place (Constant holds) = constant_text holds (node_at d.nodes place)
+oddity_text d place (Default refused) = default_text refused
+oddity_text d place (Language n) = lack_text (slice_get d.lacks n)
+oddity_text d place (Overlap sharing) = overlap_text sharing
+oddity_text d place (Text id) = textless_text id
+oddity_text d place (Unreached form) = unreached_text form
 
 abbrev pub warning_line : Details → Warning → List ℕ
 warning_line d w =
-    codes "WARN " ++ place_text w.place ++ codes " " ++ word_of w.oddity ++ codes " " ++ oddity_text d w.oddity
+    codes "WARN " ++ place_text w.place ++ codes " " ++ word_of w.oddity ++ codes " " ++ oddity_text d w.place w.oddity
     ++ codes "\n"
 
 -- ---- in an object
@@ -108,9 +112,10 @@ bounds_members (Some span) =
 abbrev pub holds_member : Bool → List ℕ
 holds_member holds = if holds then true_member (codes "holds") else []
 
-abbrev pub constant_members : Option Settled → List ℕ
-constant_members None = []
-constant_members (Some s) = holds_member s.holds ++ word_member (codes "condition") s.words
+abbrev pub constant_members : Bool → Option Node → List ℕ
+constant_members holds None = []
+constant_members holds (Some g) =
+    holds_member holds ++ word_member (codes "condition") (text (sense (expression_tree g)))
 
 abbrev pub default_members : Refused → List ℕ
 default_members refused =
@@ -127,20 +132,20 @@ abbrev pub overlap_members : Sharing → List ℕ
 overlap_members sharing =
     number_member (codes "question") sharing.question ++ number_member (codes "other") sharing.other
 
-abbrev pub oddity_members : Details → Oddity → List ℕ
-oddity_members d (Asks unanswered) = number_member (codes "id") unanswered.question
-oddity_members d (Bounds n) = bounds_members (slice_get d.spans n)
-oddity_members d (Constant n) = constant_members (slice_get d.settled n)
-oddity_members d (Default refused) = default_members refused
-oddity_members d (Language n) = lack_members (slice_get d.lacks n)
-oddity_members d (Overlap sharing) = overlap_members sharing
-oddity_members d (Text id) = number_member (codes "id") id
-oddity_members d (Unreached form) = number_member (codes "form") form
+abbrev pub oddity_members : Details → ℕ → Oddity → List ℕ
+oddity_members d place (Asks unanswered) = number_member (codes "id") unanswered.question
+oddity_members d place (Bounds n) = bounds_members (slice_get d.spans n)
+oddity_members d place (Constant holds) = constant_members holds (node_at d.nodes place)
+oddity_members d place (Default refused) = default_members refused
+oddity_members d place (Language n) = lack_members (slice_get d.lacks n)
+oddity_members d place (Overlap sharing) = overlap_members sharing
+oddity_members d place (Text id) = number_member (codes "id") id
+oddity_members d place (Unreached form) = number_member (codes "form") form
 
 abbrev pub warning_object : Details → Warning → List ℕ
 warning_object d w =
     object (codes "warning") (number_member (codes "at") w.place ++ word_member (codes "word") (word_of w.oddity)
-    ++ oddity_members d w.oddity)
+    ++ oddity_members d w.place w.oddity)
 
 abbrev pub warning_told : Telling → Details → Warning → List ℕ
 warning_told telling d w = told_as telling (warning_line d w) (warning_object d w)

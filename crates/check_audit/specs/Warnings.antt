@@ -36,7 +36,7 @@ use Rattle.check_audit.specs.declared.warning.Warning.{Warning}
 abbrev pub rank_of : Oddity → ℕ
 rank_of (Asks unanswered) = 0
 rank_of (Bounds n) = 1
-rank_of (Constant n) = 2
+rank_of (Constant holds) = 2
 rank_of (Default refused) = 3
 rank_of (Language n) = 4
 rank_of (Overlap sharing) = 5
@@ -47,7 +47,7 @@ rank_of (Unreached form) = 7
 abbrev pub id_of : Oddity → ℕ
 id_of (Asks unanswered) = unanswered.question
 id_of (Bounds n) = 0
-id_of (Constant n) = 0
+id_of (Constant holds) = 0
 id_of (Default refused) = refused.question
 id_of (Language n) = n
 id_of (Overlap sharing) = sharing.question

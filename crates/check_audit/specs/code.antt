@@ -1,7 +1,6 @@
 -- How structs of the code are seen. No module outside of this folder cites one of it.
 pub mod States
-pub mod Settled
-pub mod Settling
+pub mod Standing
 pub mod Detailing
 pub mod Lacking
 pub mod Naming

@@ -18,7 +18,6 @@ mod overlaps;
 mod package_lines;
 mod refusal;
 mod setting;
-mod settled;
 mod textless;
 mod unreached;
 mod verdict;

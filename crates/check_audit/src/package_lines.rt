@@ -3,10 +3,11 @@
 ghost use Rattle.std.specs.Prelude.{◌++◌};
 ghost use Rattle.hii_bytes.specs.Watching.{Puts};
 ghost use Rattle.hii_packages.specs.code.Package.{package_of};
+ghost use Rattle.ifr_nodes.specs.Nodes.{nodes_of};
 ghost use Rattle.check_audit.specs.Lines.{form_set_members, form_set_words, good_line, good_object, good_told, head_line, head_object, head_told, others_told, package_told, refusal_told, verdict_told};
 ghost use Rattle.check_audit.specs.WarningLines.{warnings_told};
 ghost use Rattle.check_audit.specs.code.Settings.{HasDetails, setting_of};
-ghost use Rattle.check_audit.specs.code.Settling.{constants_of};
+ghost use Rattle.check_audit.specs.code.Standing.{AllStand};
 
 use crate::form_set::form_set_of;
 use crate::refusal::{put_others, put_refusal};
@@ -48,7 +49,7 @@ fn put_verdict<W: Write>(
         (verdict_told (setting_of setting.entry) ifr.now verdict.now) }
 {
     match verdict {
-        Verdict::Good(good) => put_warned(setting, good, out),
+        Verdict::Good(good) => put_warned(setting, ifr, good, out),
         Verdict::Refused(refusal) => put_refused(setting, ifr, refusal, out),
     }
 }
@@ -149,15 +150,16 @@ pub fn put_form_set_members<W: Write>(
 }
 
 // Tells that a forms package is good, and what is strange of it.
-fn put_warned<W: Write>(setting: Setting<'_, '_>, good: &Good, out: &mut Watched<W>)
+fn put_warned<W: Write>(setting: Setting<'_, '_>, ifr: &[u8], good: &Good, out: &mut Watched<W>)
+    requires { AllStand ifr.now good.now.warnings.items }
     ensures { Puts W.contents out.old out.new (good_told setting.entry.telling good.now.counts
         ++ warnings_told setting.entry.telling
-        record { spans = good.now.spans.items; settled = constants_of good.now.settled; lacks = setting.entry.lacks.now }
+        record { spans = good.now.spans.items; nodes = nodes_of ifr.now; lacks = setting.entry.lacks.now }
         good.now.warnings.items) }
 {
     let details = Details {
         spans: &good.spans,
-        settled: &good.settled,
+        ifr,
         lacks: setting.lacks,
     };
     put_good(setting.telling, good.counts, out);

@@ -7,13 +7,11 @@ ghost use Rattle.ifr_nodes.specs.Checked.{IsChecked};
 ghost use Rattle.ifr_nodes.specs.Nodes.{is_form, is_store, nodes_of};
 ghost use Rattle.hii_varstore.specs.StoreNodes.{IsStoreFault, layout_of};
 ghost use Rattle.check_audit.specs.Verdicts.{IsRefusal, IsVerdict, counts_of, is_good};
-ghost use Rattle.check_audit.specs.Constants.{constants};
 ghost use Rattle.check_audit.specs.Warnings.{AreWarnings, crossed_spans};
 ghost use Rattle.check_audit.specs.code.Settings.{HasDetails};
-ghost use Rattle.check_audit.specs.code.Settling.{constants_of};
+ghost use Rattle.check_audit.specs.code.Standing.{AllStand};
 
 use crate::lacks::Lacks;
-use crate::settled::Constants;
 use crate::warning::{Span, Warning};
 use crate::warnings::warnings_of;
 use hii_bytes::{Cause, Fault};
@@ -41,8 +39,6 @@ pub(crate) struct Good {
     pub warnings: Vec<Warning>,
     /// The bounds that nothing can meet.
     pub spans: Vec<Span>,
-    /// The guards whose conditions name no question.
-    pub settled: Constants,
 }
 
 /// By which fault a forms package is refused.
@@ -189,7 +185,7 @@ fn good_of<'a>(
     ensures counted { IfOk result (λ good. good.counts ≡ counts_of forms.entry) }
     ensures warned { IfOk result (λ good. AreWarnings strings.now lacks.now forms.entry good.warnings.items) }
     ensures spans { IfOk result (λ good. good.spans.items ≡ crossed_spans (nodes_of forms.entry)) }
-    ensures settled { IfOk result (λ good. constants_of good.settled ≡ constants (nodes_of forms.entry)) }
+    ensures stand { IfOk result (λ good. AllStand forms.entry good.warnings.items) }
 {
     let counts = counts_of(&forms, &questions);
     let found = warnings_of(alloc, strings, lacks, forms, questions)?;
@@ -197,7 +193,6 @@ fn good_of<'a>(
         counts,
         warnings: found.warnings,
         spans: found.spans,
-        settled: found.settled,
     })
 }
 

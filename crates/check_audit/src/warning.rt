@@ -44,8 +44,8 @@ pub(crate) enum Oddity {
     Asks(Unanswered),
     /// The least is above the greatest, by its number among such bounds.
     Bounds(u32),
-    /// A guard whose condition names no question, by its number among those.
-    Constant(u32),
+    /// A guard whose condition names no question, by whether it holds.
+    Constant(bool),
     /// A question does not take its default.
     Default(Refused),
     /// A string package lacks texts of the first one, by its number among those that do.

@@ -1,33 +1,43 @@
 //! How warnings are told.
 
-ghost use Rattle.std.specs.Prelude.{◌≡◌, Some, slice_get};
+ghost use Rattle.std.specs.Prelude.{◌≡◌, Some, slice_get, true};
 ghost use Rattle.std.specs.Fmt.{signed_decimal};
 ghost use Rattle.hii_bytes.specs.Watching.{Puts};
+ghost use Rattle.ifr_opcodes.specs.Forest.{node_at as node_there};
+ghost use Rattle.ifr_opcodes.specs.Opcode.{number};
+ghost use Rattle.ifr_expr.specs.code.Expressions.{tree_of};
+ghost use Rattle.ifr_nodes.specs.Guards.{is_guard};
+ghost use Rattle.ifr_nodes.specs.Nodes.{nodes_of};
+ghost use Rattle.ifr_nodes.specs.code.Views.{node_of};
+ghost use Rattle.condition_text.specs.Senses.{sense};
+ghost use Rattle.condition_text.specs.Texts.{text};
 ghost use Rattle.audit_json.specs.Objects.{member, quoted};
 ghost use Rattle.check_audit.specs.WarningLines.{asks_text, bounds_members, bounds_text, comes_again, constant_members, constant_text, default_members, default_text, denial_word, holds_member, lack_members, lack_of, lack_text, oddity_members, oddity_text, overlap_members, overlap_text, textless_text, unlike_told, unreached_text, verdict_word, warning_line, warning_object, warning_told, warnings_told, word_of};
 ghost use Rattle.check_audit.specs.code.Detailing.{details_of};
 ghost use Rattle.check_audit.specs.code.Lacking.{lack_seen};
-ghost use Rattle.check_audit.specs.code.Settling.{constants_of, settled_of};
+ghost use Rattle.check_audit.specs.code.Standing.{AllStand, IsGuardAt, StandsIn};
 
 use crate::lacks::{Lack, Lacks};
-use crate::settled::{Constants, Settled};
 use crate::warning::{Oddity, Refused, Sharing, Span, Unanswered, Warning};
 use audit_json::{
     Telling, end_object, put_kind, put_member, put_number, put_string, put_true, put_word,
 };
 use audit_text::{opcode_name, put_language};
+use condition_text::ConditionText;
 use hii_bytes::Watched;
 use hii_questions::DenialKind;
+use ifr_expr::Expr;
+use ifr_nodes::{Node, node_at};
 use itoa::Buffer;
 use std::io::Write;
 
-/// What warnings tell by a number.
+/// What warnings tell by a number, or by their place.
 #[derive(Clone, Copy)]
 pub(crate) struct Details<'s, 'a> {
     /// The bounds that nothing can meet.
     pub spans: &'s [Span],
-    /// The guards whose conditions name no question.
-    pub settled: &'s Constants,
+    /// The package, in which guards stand whose conditions name no question.
+    pub ifr: &'s [u8],
     /// The string packages that lack texts of the first one.
     pub lacks: &'s Lacks<'a>,
 }
@@ -103,22 +113,24 @@ fn verdict_word(holds: bool) -> &'static [u8]
     }
 }
 
-// Writes which condition names no question.
-fn put_settled<W: Write>(settled: Settled<'_>, out: &mut Watched<W>)
-    ensures { Puts W.contents out.old out.new (constant_text (Some (settled_of settled.entry))) }
+// The guard at a place.
+fn guard_at(ifr: &[u8], place: u32) -> Node<'_>
+    requires { IsGuardAt ifr.now place }
+    ensures found { node_there (nodes_of ifr.entry.now) place ≡ Some (node_of result) }
+    ensures guard { is_guard (number (node_of result).op) ≡ true }
 {
-    out.put(opcode_name(settled.code));
-    out.put(verdict_word(settled.holds));
-    out.put(settled.words);
+    node_at(ifr, place)
 }
 
-// Writes which condition of some names no question.
-fn put_constant<W: Write>(settled: &Constants, number: u32, out: &mut Watched<W>)
-    ensures { Puts W.contents out.old out.new (constant_text (slice_get (constants_of settled.now) number)) }
+// Writes which condition names no question, and whether it holds.
+fn put_constant<W: Write>(ifr: &[u8], place: u32, holds: bool, out: &mut Watched<W>)
+    requires { IsGuardAt ifr.now place }
+    ensures { Puts W.contents out.old out.new (constant_text holds (node_there (nodes_of ifr.now) place)) }
 {
-    if let Some(one) = settled.get(number) {
-        put_settled(one, out);
-    }
+    let guard = guard_at(ifr, place);
+    out.put(opcode_name(guard.op().code));
+    out.put(verdict_word(holds));
+    ConditionText::of(guard.expression()).put(out);
 }
 
 // Why a default is not taken.
@@ -191,13 +203,14 @@ fn put_unreached<W: Write>(form: u16, out: &mut Watched<W>)
 }
 
 // Writes what is strange.
-fn put_oddity<W: Write>(details: Details<'_, '_>, oddity: Oddity, out: &mut Watched<W>)
-    ensures { Puts W.contents out.old out.new (oddity_text (details_of details.entry) oddity) }
+fn put_oddity<W: Write>(details: Details<'_, '_>, warning: Warning, out: &mut Watched<W>)
+    requires { StandsIn details.ifr.now warning }
+    ensures { Puts W.contents out.old out.new (oddity_text (details_of details.entry) warning.place warning.oddity) }
 {
-    match oddity {
+    match warning.oddity {
         Oddity::Asks(unanswered) => put_asks(unanswered, out),
         Oddity::Bounds(number) => put_bounds(details.spans, number, out),
-        Oddity::Constant(number) => put_constant(details.settled, number, out),
+        Oddity::Constant(holds) => put_constant(details.ifr, warning.place, holds, out),
         Oddity::Default(refused) => put_default(refused, out),
         Oddity::Language(number) => put_lack_with(details.lacks, number, out),
         Oddity::Overlap(sharing) => put_overlap(sharing, out),
@@ -208,6 +221,7 @@ fn put_oddity<W: Write>(details: Details<'_, '_>, oddity: Oddity, out: &mut Watc
 
 // Writes the line of a warning.
 fn put_line<W: Write>(details: Details<'_, '_>, warning: Warning, out: &mut Watched<W>)
+    requires { StandsIn details.ifr.now warning }
     ensures { Puts W.contents out.old out.new (warning_line (details_of details.entry) warning) }
 {
     out.put(b"WARN ");
@@ -215,7 +229,7 @@ fn put_line<W: Write>(details: Details<'_, '_>, warning: Warning, out: &mut Watc
     out.put(b" ");
     out.put(word_of(warning.oddity));
     out.put(b" ");
-    put_oddity(details, warning.oddity, out);
+    put_oddity(details, warning, out);
     out.put(b"\n");
 }
 
@@ -254,30 +268,23 @@ fn put_holds<W: Write>(holds: bool, out: &mut Watched<W>)
 }
 
 // Writes a condition in words, in quotes.
-fn put_quoted_words<W: Write>(words: &[u8], out: &mut Watched<W>)
-    ensures { Puts W.contents out.old out.new (quoted words.now) }
+fn put_quoted_condition<W: Write>(condition: Expr<'_>, out: &mut Watched<W>)
+    ensures { Puts W.contents out.old out.new (quoted (text (sense (tree_of condition.entry)))) }
 {
     out.put(b"\"");
-    out.put(words);
+    ConditionText::of(condition).put(out);
     out.put(b"\"");
 }
 
-// Writes the members that tell which condition names no question.
-fn put_settled_members<W: Write>(settled: Settled<'_>, out: &mut Watched<W>)
-    ensures { Puts W.contents out.old out.new (constant_members (Some (settled_of settled.entry))) }
+// Writes the members that tell which condition names no question, and whether it holds.
+fn put_constant_members<W: Write>(ifr: &[u8], place: u32, holds: bool, out: &mut Watched<W>)
+    requires { IsGuardAt ifr.now place }
+    ensures { Puts W.contents out.old out.new (constant_members holds (node_there (nodes_of ifr.now) place)) }
 {
-    put_holds(settled.holds, out);
+    let guard = guard_at(ifr, place);
+    put_holds(holds, out);
     put_member(b"condition", out);
-    put_quoted_words(settled.words, out);
-}
-
-// Writes the members that tell which condition of some names no question.
-fn put_constant_members<W: Write>(settled: &Constants, number: u32, out: &mut Watched<W>)
-    ensures { Puts W.contents out.old out.new (constant_members (slice_get (constants_of settled.now) number)) }
-{
-    if let Some(one) = settled.get(number) {
-        put_settled_members(one, out);
-    }
+    put_quoted_condition(guard.expression(), out);
 }
 
 // Writes the members that tell which default is not taken.
@@ -316,13 +323,14 @@ fn put_overlap_members<W: Write>(sharing: Sharing, out: &mut Watched<W>)
 }
 
 // Writes the members that tell what is strange.
-fn put_members<W: Write>(details: Details<'_, '_>, oddity: Oddity, out: &mut Watched<W>)
-    ensures { Puts W.contents out.old out.new (oddity_members (details_of details.entry) oddity) }
+fn put_members<W: Write>(details: Details<'_, '_>, warning: Warning, out: &mut Watched<W>)
+    requires { StandsIn details.ifr.now warning }
+    ensures { Puts W.contents out.old out.new (oddity_members (details_of details.entry) warning.place warning.oddity) }
 {
-    match oddity {
+    match warning.oddity {
         Oddity::Asks(unanswered) => put_number(b"id", u64::from(unanswered.question), out),
         Oddity::Bounds(number) => put_bounds_members(details.spans, number, out),
-        Oddity::Constant(number) => put_constant_members(details.settled, number, out),
+        Oddity::Constant(holds) => put_constant_members(details.ifr, warning.place, holds, out),
         Oddity::Default(refused) => put_default_members(refused, out),
         Oddity::Language(number) => put_members_with(details.lacks, number, out),
         Oddity::Overlap(sharing) => put_overlap_members(sharing, out),
@@ -333,12 +341,13 @@ fn put_members<W: Write>(details: Details<'_, '_>, oddity: Oddity, out: &mut Wat
 
 // Writes the object of a warning.
 fn put_object<W: Write>(details: Details<'_, '_>, warning: Warning, out: &mut Watched<W>)
+    requires { StandsIn details.ifr.now warning }
     ensures { Puts W.contents out.old out.new (warning_object (details_of details.entry) warning) }
 {
     put_kind(b"warning", out);
     put_number(b"at", u64::from(warning.place), out);
     put_word(b"word", word_of(warning.oddity), out);
-    put_members(details, warning.oddity, out);
+    put_members(details, warning, out);
     end_object(out);
 }
 
@@ -349,6 +358,7 @@ fn put_warning<W: Write>(
     warning: Warning,
     out: &mut Watched<W>,
 )
+    requires { StandsIn details.ifr.now warning }
     ensures { Puts W.contents out.old out.new (warning_told telling (details_of details.entry) warning) }
 {
     match telling {
@@ -372,6 +382,7 @@ fn put_unlike<W: Write>(
     warning: Warning,
     out: &mut Watched<W>,
 )
+    requires { StandsIn details.ifr.now warning }
     ensures { Puts W.contents out.old out.new (unlike_told telling (details_of details.entry) last warning) }
 {
     if !comes_again(last, warning) {
@@ -386,6 +397,7 @@ pub(crate) fn put_warnings<W: Write>(
     warnings: &[Warning],
     out: &mut Watched<W>,
 )
+    requires { AllStand details.ifr.now warnings.now }
     ensures { Puts W.contents out.old out.new (warnings_told telling (details_of details.entry) warnings.now) }
 {
     let mut last = None;

@@ -2,20 +2,17 @@
 
 ghost use Rattle.std.specs.Prelude.{IfOk, ◌≡◌, ◌++◌};
 ghost use Rattle.ifr_nodes.specs.Nodes.{nodes_of};
-ghost use Rattle.check_audit.specs.Constants.{constants};
 ghost use Rattle.check_audit.specs.GivenDefaults.{default_warnings};
 ghost use Rattle.check_audit.specs.Warnings.{AreWarnings, asks_warnings, bounds_warnings, crossed_spans, unreached_warnings};
-ghost use Rattle.check_audit.specs.code.Settling.{constants_of};
 ghost use Rattle.check_audit.specs.code.States.{states_of};
 
 use crate::asks::add_asks;
 use crate::bounds::add_bounds;
-use crate::constants::{add_constants, constants_of};
+use crate::constants::add_constants;
 use crate::given_defaults::add_defaults;
 use crate::guard_states::{GuardState, guard_states};
 use crate::lacks::Lacks;
 use crate::overlaps::add_overlaps;
-use crate::settled::Constants;
 use crate::textless::add_textless;
 use crate::unreached::add_unreached;
 use crate::warning::{Span, Warning};
@@ -30,8 +27,6 @@ pub(crate) struct Found {
     pub warnings: Vec<Warning>,
     /// The bounds that nothing can meet.
     pub spans: Vec<Span>,
-    /// The guards whose conditions name no question.
-    pub settled: Constants,
 }
 
 // What is found by the tables of a form set: its warnings but those of conditions that name no question, in front of
@@ -76,7 +71,7 @@ fn read_tables<'a>(
 
 /// The warnings of a form set, by place, then word, then id, where the first string package says this, and further ones
 /// lack this. The tables of the form set are given back as soon as they were looked at, so that the warnings take no more
-/// room than these; and conditions are put in words at last.
+/// room than these.
 pub(crate) fn warnings_of<'a>(
     alloc: Global,
     strings: &FirstStrings<'_>,
@@ -87,7 +82,6 @@ pub(crate) fn warnings_of<'a>(
     requires { questions.ifr ≡ forms }
     ensures warned { IfOk result (λ found. AreWarnings strings.now lacks.now forms.entry found.warnings.items) }
     ensures spans { IfOk result (λ found. found.spans.items ≡ crossed_spans (nodes_of forms.entry)) }
-    ensures settled { IfOk result (λ found. constants_of found.settled ≡ constants (nodes_of forms.entry)) }
 {
     let ifr = forms.bytes();
     let found = read_tables(alloc, strings, &forms, &questions)?;
@@ -99,6 +93,7 @@ pub(crate) fn warnings_of<'a>(
         states,
     } = found;
     add_constants(ifr, &states, &mut warnings)?;
+    drop(states);
     warnings.extend_from_slice(&behind)?;
     drop(behind);
     add_overlaps(alloc, questions, &mut warnings)?;
@@ -106,10 +101,5 @@ pub(crate) fn warnings_of<'a>(
     add_textless(alloc, strings, ifr, &mut warnings)?;
     warnings.sort_by_key(|warning| warning.order())?;
     warnings.shrink_to_fit();
-    let settled = constants_of(alloc, ifr, &states)?;
-    Ok(Found {
-        warnings,
-        spans,
-        settled,
-    })
+    Ok(Found { warnings, spans })
 }

@@ -1,5 +1,0 @@
-use Rattle.hii_bytes.proofs.WritingLemmas.{◌⨾◌}
-use Rattle.check_audit.proofs.warning_lines.put_quoted_words.Goals as goal
-
-pub returns : goal.returns
-returns g c = c.put.ensures ⨾ c.put-2.ensures ⨾ c.put-3.ensures
