@@ -8,6 +8,7 @@ use Rattle.std.proofs.lemmas.Str.{IsUtf8-append, IsUtf8-from_ascii, chars-IsAsci
 use lib.Utf8.{encode, encodes, next, scalar}
 use Rattle.hii_bytes.specs.Texts.{right_aligned}
 use Rattle.audit_text.specs.Texts.{ascii_name, hex_text, is_unsafe, joined, language_byte, language_name, left_aligned, name_by, safe_char, safe_text, shown_byte}
+use Rattle.check_audit.proofs.EachLemmas.{each_behind}
 use Rattle.json_laws.specs.laws.Written.{IsWord, is_plain}
 use Rattle.json_laws.proofs.WordLemmas.{hexadecimal_word}
 use Rattle.object_laws.specs.laws.Lines.{AreLines, IsLine, IsSafe, is_control}
@@ -173,10 +174,6 @@ pub right_safe : (width : ℕ) {text : List ℕ} → IsSafe text → IsSafe (rig
 right_safe width {text} safe = safe_behind (spaces_safe (width - length text)) safe
 
 -- ---- texts of lists
-
-pub each_behind : {X : Type 0} (P : X → Type 0) (xs ys : List X) → AllByRecursion P xs → AllByRecursion P ys → AllByRecursion P (xs ++ ys)
-each_behind P [] ys all too = too
-each_behind P (x ∷ xs) ys all too = (all.0, each_behind P xs ys all.1 too)
 
 pub each_safe : {X : Type 0} (P : X → Type 0) (f : X → List ℕ) (xs : List X) → ((x : X) → P x → IsSafe (f x)) → AllByRecursion P xs → IsSafe (flat_map f xs)
 each_safe P f [] one all = safe_nothing

@@ -1,17 +1,18 @@
 -- Objects in which `check` warns tell facts.
-use Rattle.std.proofs.Common.{◌||◌, not, nat_abs, ℕ, zero, suc, ◌^◌, ◌<◌, Bool, List, [], ◌∷◌, ◌++◌, Option, Some, None, IfSome, map, slice_get, codes, refl, arith}
+use Rattle.std.proofs.Common.{◌||◌, not, nat_abs, ℕ, zero, suc, ◌^◌, ◌<◌, Bool, List, [], ◌∷◌, ◌++◌, Option, Some, None, IfSome, slice_get, codes, refl, arith}
 use Rattle.std.specs.List.{AllByRecursion}
 use Rattle.std.proofs.lemmas.Bool.{cond_both}
 use Rattle.browser_rules.specs.Strings.{Spoken}
 use Rattle.hii_bytes.specs.Numbers.{AreBytes}
 use Rattle.ifr_opcodes.specs.Fields.{default_id, form_id, question_id}
-use Rattle.ifr_opcodes.specs.Forest.{Node}
+use Rattle.ifr_opcodes.specs.Forest.{Node, node_at}
 use Rattle.ifr_nodes.specs.NodeExpressions.{expression_tree}
 use Rattle.condition_text.specs.Senses.{sense}
+use Rattle.condition_text.specs.Texts.{text}
 use Rattle.hii_values.specs.declared.denial.DenialKind.{DenialKind}
 use Rattle.audit_json.specs.Objects.{number_member, object, word_member}
 use Rattle.hii_questions.specs.Fields.{Asked, Field, is_same_field, meets}
-use Rattle.check_audit.specs.Constants.{Settled, constant_guards, constants, numbered_constants, settled_at}
+use Rattle.check_audit.specs.Constants.{constant_at, holds_always}
 use Rattle.check_audit.specs.GivenDefaults.{refused}
 use Rattle.check_audit.specs.Lacks.{Lack, numbered_lacks}
 use Rattle.check_audit.specs.Overlaps.{field_of_laid, laid_at, overlap_of}
@@ -21,7 +22,7 @@ use Rattle.json_laws.specs.laws.Telling.{IsReadBack, TellsFacts}
 use Rattle.json_laws.specs.laws.Written.{IsWord}
 use Rattle.json_laws.proofs.ConditionLemmas.{condition_word}
 use Rattle.json_laws.proofs.TellingLemmas.{read_back, tells_behind, tells_integer, tells_member, tells_nothing, tells_text}
-use Rattle.object_laws.specs.laws.Checks.{CanDetail, CanLack, IsWorded}
+use Rattle.object_laws.specs.laws.Checks.{CanDetail, CanLack}
 use Rattle.object_laws.proofs.CheckLemmas.{number_member_told}
 use Rattle.object_laws.proofs.FieldLemmas.{two_bytes}
 use Rattle.object_laws.proofs.MemberLemmas.{kind_word, where_told, word_told}
@@ -49,9 +50,11 @@ bounds_told : (o : Option Span) → IfSome o (λ span. (nat_abs span.minimum < 2
 bounds_told None small = tells_nothing
 bounds_told (Some span) small = tells_behind (tells_member (codes "minimum") refl (tells_integer span.minimum small.0)) (tells_member (codes "maximum") refl (tells_integer span.maximum small.1))
 
-constant_told : (o : Option Settled) → IfSome o IsWorded → TellsFacts (constant_members o)
-constant_told None plain = tells_nothing
-constant_told (Some s) plain = tells_behind (where_told s.holds (codes "holds") refl) (word_told (codes "condition") s.words refl plain)
+constant_told : (holds : Bool) (o : Option Node) → TellsFacts (constant_members holds o)
+constant_told holds None = tells_nothing
+constant_told holds (Some g) =
+    let said = sense (expression_tree g) in
+    tells_behind (where_told holds (codes "holds") refl) (word_told (codes "condition") (text said) refl (condition_word said))
 
 lack_told : (o : Option Lack) → IfSome o CanLack → TellsFacts (lack_members o)
 lack_told None can = tells_nothing
@@ -76,10 +79,8 @@ bounds_back d k [] can near = tt
 bounds_back d k (n ∷ ns) can near =
     (warned n.place (codes "bounds") near.0 refl (bounds_told (slice_get d.spans k) (at_number _ d.spans k can.spans)), bounds_back d (suc k) ns can near.1)
 
-pub constant_back : (d : Details) (k : ℕ) (gs : List Node) → CanDetail d → AllByRecursion (λ g. g.place < 2 ^ 64) gs → AllByRecursion (λ w. IsReadBack (codes "warning") (warning_object d w)) (numbered_constants k gs)
-constant_back d k [] can near = tt
-constant_back d k (g ∷ gs) can near =
-    (warned g.place (codes "constant") near.0 refl (constant_told (slice_get d.settled k) (at_number IsWorded d.settled k can.settled)), constant_back d (suc k) gs can near.1)
+pub constant_back : (d : Details) (ns : List Node) (g : Node) → g.place < 2 ^ 64 → IsReadBack (codes "warning") (warning_object d (constant_at ns g))
+constant_back d ns g near = warned g.place (codes "constant") near refl (constant_told (holds_always ns g) (node_at d.nodes g.place))
 
 pub language_back : (d : Details) (k : ℕ) (lacks : List Lack) → CanDetail d → AllByRecursion (λ w. IsReadBack (codes "warning") (warning_object d w)) (numbered_lacks k lacks)
 language_back d k [] can = tt
@@ -113,12 +114,3 @@ pub unreached_back : (d : Details) (named : ℕ → Bool) (form : Node) → form
 unreached_back d named form near are =
     cond_both (named (form_id form.op)) None _ (λ o. IfSome o (λ w. IsReadBack (codes "warning") (warning_object d w))) (λ _. tt)
     (λ _. warned form.place (codes "unreached") near refl (number_member_told (codes "form") (form_id form.op) refl (two_bytes form.op 2 are)))
-
--- ---- conditions of guards
-
-each_worded : (ns gs : List Node) → AllByRecursion IsWorded (map (settled_at ns) gs)
-each_worded ns [] = tt
-each_worded ns (g ∷ gs) = (condition_word (sense (expression_tree g)), each_worded ns gs)
-
-pub constants_worded : (ns : List Node) → AllByRecursion IsWorded (constants ns)
-constants_worded ns = each_worded ns (constant_guards ns)

@@ -13,7 +13,7 @@ ghost use Rattle.ifr_nodes.specs.Nodes.{nodes_of};
 ghost use Rattle.hii_values.specs.declared.denial.DenialKind.{DenialKind};
 ghost use Rattle.hii_questions.specs.Fields.{Asked, Field};
 ghost use Rattle.check_audit.specs.Behind.{seen_before};
-ghost use Rattle.check_audit.specs.Constants.{constants, numbered_constants};
+ghost use Rattle.check_audit.specs.Constants.{constant_at};
 ghost use Rattle.check_audit.specs.GivenDefaults.{refused};
 ghost use Rattle.check_audit.specs.Lacks.{Lack, numbered_lacks};
 ghost use Rattle.check_audit.specs.Lines.{Setting, also_object, byte_object, good_object, head_object, mostly_object, named_object, opcode_object, text_of};
@@ -23,7 +23,7 @@ ghost use Rattle.check_audit.specs.Verdicts.{counts_of};
 ghost use Rattle.check_audit.specs.WarningLines.{Details, warning_object};
 ghost use Rattle.check_audit.specs.Warnings.{asking, numbered_bounds, textless_at, unreached_at};
 ghost use Rattle.json_laws.specs.laws.Telling.{IsReadBack};
-ghost use Rattle.object_laws.specs.laws.Checks.{CanDetail, IsWorded};
+ghost use Rattle.object_laws.specs.laws.Checks.{CanDetail};
 
 /// What is told of a forms package, how much it has where it is good, what stands where it has a fault and before it, and the others, is
 /// read back; the fault itself is a refusal.
@@ -41,15 +41,14 @@ pub fn objects_of_check_are_read_back()
     ensures good { (ifr : List ℕ) → length (nodes_of ifr) < 2 ^ 64 → IsReadBack (codes "good") (good_object (counts_of ifr)) }
 {}
 
-/// What is strange of a forms package is read back, of each word: a condition that asks what has no answer, the bounds and constant guards
-/// by their numbers, a default that its question does not take, the string packages that lack texts, two fields that share bytes, a
-/// string id without a text, and a form that no reference names.
+/// What is strange of a forms package is read back, of each word: a condition that asks what has no answer, the bounds by their
+/// numbers, a guard whose condition names no question, a default that its question does not take, the string packages that lack
+/// texts, two fields that share bytes, a string id without a text, and a form that no reference names.
 pub fn warnings_of_check_are_read_back()
     ensures asks { (d : Details) (place id : ℕ) (is_there : Bool) → place < 2 ^ 64 → id < 2 ^ 64 → IsReadBack (codes "warning") (warning_object d (asking place id is_there)) }
     ensures bounds { (d : Details) (k : ℕ) (ns : List Node) → CanDetail d → AllByRecursion (λ n. n.place < 2 ^ 64) ns
         → AllByRecursion (λ w. IsReadBack (codes "warning") (warning_object d w)) (numbered_bounds k ns) }
-    ensures constant { (d : Details) (k : ℕ) (guards : List Node) → CanDetail d → AllByRecursion (λ g. g.place < 2 ^ 64) guards
-        → AllByRecursion (λ w. IsReadBack (codes "warning") (warning_object d w)) (numbered_constants k guards) }
+    ensures constant { (d : Details) (ns : List Node) (g : Node) → g.place < 2 ^ 64 → IsReadBack (codes "warning") (warning_object d (constant_at ns g)) }
     ensures default { (d : Details) (q : Asked) (n : Node) (denial : Option DenialKind) → n.place < 2 ^ 64 → AreBytes n.op → AreBytes q.node.op
         → IsReadBack (codes "warning") (warning_object d (refused q n denial)) }
     ensures language { (d : Details) (k : ℕ) (lacks : List Lack) → CanDetail d
@@ -60,5 +59,4 @@ pub fn warnings_of_check_are_read_back()
         → IfSome (textless_at spoken place id) (λ w. IsReadBack (codes "warning") (warning_object d w)) }
     ensures unreached { (d : Details) (named : ℕ → Bool) (form : Node) → form.place < 2 ^ 64 → AreBytes form.op
         → IfSome (unreached_at named form) (λ w. IsReadBack (codes "warning") (warning_object d w)) }
-    ensures condition { (ns : List Node) → AllByRecursion IsWorded (constants ns) }
 {}

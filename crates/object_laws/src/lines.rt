@@ -40,7 +40,7 @@ ghost use Rattle.image_audit.specs.Export.{store_line as held_line};
 ghost use Rattle.image_audit.specs.Lines.{piece_line};
 ghost use Rattle.opcode_audit.specs.Lines.{line as opcodes_line, said_first};
 ghost use Rattle.check_audit.specs.Behind.{seen_before};
-ghost use Rattle.check_audit.specs.Constants.{constants, numbered_constants};
+ghost use Rattle.check_audit.specs.Constants.{constant_at};
 ghost use Rattle.check_audit.specs.GivenDefaults.{refused};
 ghost use Rattle.check_audit.specs.Lacks.{Lack, numbered_lacks};
 ghost use Rattle.check_audit.specs.Lines.{Setting, also_line, byte_line, good_line, head_line, mostly_line, named_line, opcode_line, text_of};
@@ -62,7 +62,6 @@ ghost use Rattle.unlock_audit.specs.Told.{unlock_line};
 ghost use Rattle.unlock_audit.specs.Unlock.{Unlock};
 ghost use Rattle.json_laws.specs.laws.Telling.{IsReadBack};
 ghost use Rattle.json_laws.specs.laws.Written.{IsWord};
-ghost use Rattle.object_laws.specs.laws.Checks.{IsWorded};
 ghost use Rattle.object_laws.specs.laws.Differences.{CanTellValue};
 ghost use Rattle.object_laws.specs.laws.Lines.{AreLines, IsLine, IsSafe, TellsLines, is_control};
 ghost use Rattle.object_laws.specs.laws.Questions.{HasUnits, ShowsTexts};
@@ -144,14 +143,13 @@ pub fn lines_of_opcodes_are_lines()
 pub fn warnings_of_check_are_lines()
     ensures asks { (d : Details) (place id : ℕ) (is_there : Bool) → IsLine (warning_line d (asking place id is_there)) }
     ensures bounds { (d : Details) (k : ℕ) (ns : List Node) → AllByRecursion (λ w. IsLine (warning_line d w)) (numbered_bounds k ns) }
-    ensures constant { (d : Details) (k : ℕ) (guards : List Node) → AllByRecursion IsWorded d.settled → AllByRecursion (λ w. IsLine (warning_line d w)) (numbered_constants k guards) }
+    ensures constant { (d : Details) (ns : List Node) (g : Node) → IsLine (warning_line d (constant_at ns g)) }
     ensures default { (d : Details) (q : Asked) (n : Node) (denial : Option DenialKind) → IsLine (warning_line d (refused q n denial)) }
     ensures language { (d : Details) (k : ℕ) (lacks : List Lack) → AllByRecursion (λ w. IsLine (warning_line d w)) (numbered_lacks k lacks) }
     ensures overlap { (d : Details) (n m : Node) (before next : Field) → IfSome (overlap_of (laid_at n before) (laid_at m next)) (λ w. IsLine (warning_line d w)) }
     ensures text { (d : Details) (spoken : List Spoken) (place id : ℕ) → IfSome (textless_at spoken place id) (λ w. IsLine (warning_line d w)) }
     ensures unreached { (d : Details) (named : ℕ → Bool) (form : Node) → IfSome (unreached_at named form) (λ w. IsLine (warning_line d w)) }
-    ensures all { (d : Details) (spoken : List Spoken) (lacks : List Lack) (ifr : List ℕ) → d.settled ≡ constants (nodes_of ifr)
-        → TellsLines (AreWarnings spoken lacks ifr) (warnings_told Lines d) }
+    ensures all { (d : Details) (spoken : List Spoken) (lacks : List Lack) (ifr : List ℕ) → TellsLines (AreWarnings spoken lacks ifr) (warnings_told Lines d) }
 {}
 
 /// A refusal is one line, by its cause alone and with the place of its fault.

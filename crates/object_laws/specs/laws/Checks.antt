@@ -1,15 +1,9 @@
--- What can be told in objects of the details of warnings: bounds and counts have 64 bits, conditions are words, and languages are
--- characters.
+-- What can be told in objects of the details of warnings: bounds and counts have 64 bits, and languages are characters.
 use Rattle.std.specs.Prelude.{◌≡◌, nat_abs, ◌<◌, ◌^◌, true}
 use Rattle.std.specs.List.{AllByRecursion}
 use Rattle.std.specs.Str.{all_scalars}
-use Rattle.check_audit.specs.Constants.{Settled}
 use Rattle.check_audit.specs.Lacks.{Lack}
 use Rattle.check_audit.specs.WarningLines.{Details}
-use Rattle.json_laws.specs.laws.Written.{IsWord}
-
-abbrev pub IsWorded : Settled → Type 0
-IsWorded s = IsWord s.words
 
 pub record CanLack (lack : Lack) : Type 0 where
   pub language : all_scalars lack.language ≡ true
@@ -18,5 +12,4 @@ pub record CanLack (lack : Lack) : Type 0 where
 
 pub record CanDetail (d : Details) : Type 0 where
   pub spans : AllByRecursion (λ span. (nat_abs span.minimum < 2 ^ 64) × (nat_abs span.maximum < 2 ^ 64)) d.spans
-  pub settled : AllByRecursion IsWorded d.settled
   pub lacks : AllByRecursion CanLack d.lacks

@@ -1,4 +1,4 @@
-use Rattle.object_laws.proofs.WarningLemmas.{asks_back, bounds_back, constant_back, constants_worded, default_back, language_back, overlap_back, text_back, unreached_back}
+use Rattle.object_laws.proofs.WarningLemmas.{asks_back, bounds_back, constant_back, default_back, language_back, overlap_back, text_back, unreached_back}
 use Rattle.object_laws.proofs.check.warnings_of_check_are_read_back.Goals as goal
 
 pub returns-clause-asks : goal.returns-clause-asks
@@ -24,6 +24,3 @@ returns-clause-text c = text_back
 
 pub returns-clause-unreached : goal.returns-clause-unreached
 returns-clause-unreached c = unreached_back
-
-pub returns-clause-condition : goal.returns-clause-condition
-returns-clause-condition c = constants_worded

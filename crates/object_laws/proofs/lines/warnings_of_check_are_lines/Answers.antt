@@ -27,4 +27,4 @@ pub returns-clause-unreached : goal.returns-clause-unreached
 returns-clause-unreached c = unreached_line
 
 pub returns-clause-all : goal.returns-clause-all
-returns-clause-all c = λ d spoken lacks ifr same ws are. warnings_are_lines d spoken lacks ifr ws same are
+returns-clause-all c = λ d spoken lacks ifr ws are. warnings_are_lines d spoken lacks ifr ws are
