@@ -315,14 +315,14 @@ def _(part):
 
 # ---- audits: of the question 1, and of all
 
-@product("audit: questions x guards that name a rule", {"report": (BYTE, 105)}, AUDITED)
+@product("audit: questions x guards that name a rule", {"report": (BYTE, 100)}, AUDITED)
 def _(part):
     boxes = b"".join(checkbox(number, 0) for number in range(1, part(4000) + 1))
     return of_opening(*with_a_rule(part, nested(part(GUARDS), boxes, rule_ref(1))))
 
 
 # The guards around each question are gone through for whether it depends on the question 1.
-@product("audit: questions x guards over a wide text", {"questions": (BYTE, 64), "report": (BYTE, 72), "question": (STEP, 260)}, AUDITED)
+@product("audit: questions x guards over a wide text", {"questions": (BYTE, 64), "report": (BYTE, 72), "question": (STEP, 140)}, AUDITED)
 def _(part):
     count, width = part(4000), part(WIDE // 2) * 2
     boxes = b"".join(checkbox(number, width) for number in range(1, count + 1))
@@ -342,7 +342,7 @@ def _(part):
 
 
 # The guards around each option are gone through for what denies it.
-@product("audit: options x guards", {"question": (STEP, 650), "report": (STEP, 650)}, AUDITED)
+@product("audit: options x guards", {"question": (STEP, 270), "report": (STEP, 270)}, AUDITED)
 def _(part):
     count = part(16000)
     options = b"".join(option(5, number, NUMBER_4) for number in range(count))
